@@ -1,0 +1,106 @@
+// Calls on a bank, which is one lock's share of a memory zone, and its history.
+use crate::Bytes;
+
+/// Blocks of 2 MiB that follow each other: `count` of them from `first` on.
+#[derive(Clone, Copy, PartialEq, Eq, Debug)]
+pub struct Span {
+    pub first: u32,
+    pub count: u32,
+}
+
+/// A call on a bank. Numbers of blocks are the zone's; offsets and lengths are in bytes.
+#[derive(Clone, PartialEq, Eq, Debug, Drop)]
+pub enum BankCall {
+    /// Opens the blocks below a number, and no others; every byte is 0.
+    Shape(u32),
+    /// Closes every block.
+    Wipe,
+    Open(Span),
+    Seal(Span),
+    Unseal(Span),
+    Close(Span),
+    Freeze,
+    Thaw,
+    /// Writes a page of 4,096 bytes.
+    Fill {
+        block: u32,
+        page: u16,
+        bytes: Bytes,
+    },
+    /// Counts the pages that are not all zero.
+    Show,
+    Read {
+        block: u32,
+        offset: u32,
+        len: u32,
+    },
+    Write {
+        block: u32,
+        offset: u32,
+        bytes: Bytes,
+    },
+    Pin {
+        number: u32,
+        span: Span,
+    },
+    Unpin {
+        number: u32,
+    },
+}
+
+/// The answer of a bank.
+#[derive(Clone, PartialEq, Eq, Debug, Drop)]
+pub enum BankReply {
+    Done,
+    Got(Bytes),
+    Sealed,
+    /// The lowest pinned block, and the lowest caller that pins it.
+    Busy { block: u32, caller: u32 },
+    Closed,
+    Pages(u32),
+    Pinned,
+    /// The lowest block of the call that is not open.
+    Fault(u32),
+}
+
+/// One entry of a bank's history.
+#[derive(Clone, PartialEq, Eq, Debug, Drop)]
+pub struct BankEntry {
+    /// 0 is the owner, 1 + n the context of vCPU n, 16 + s that of the device in slot s.
+    pub caller: u32,
+    pub call: BankCall,
+    pub reply: BankReply,
+}
+
+/// Why a bank makes no entry. `seen` is the length of its history then.
+#[derive(Clone, Copy, PartialEq, Eq, Debug)]
+pub enum Refusal {
+    /// The lowest sealed block of the call.
+    Sealed { block: u32, seen: u64 },
+    Frozen { seen: u64 },
+    Full(Full),
+}
+
+/// A book whose next entry would pass a limit, and what it holds, reserved places counted.
+#[derive(Clone, Copy, PartialEq, Eq, Debug)]
+pub struct Full {
+    pub book: BookId,
+    pub entries: u64,
+    /// Bytes of payload.
+    pub bytes: u64,
+}
+
+/// A book: the control book, or a bank of a zone.
+#[derive(Clone, Copy, PartialEq, Eq, Debug)]
+pub enum BookId {
+    Control,
+    Bank { zone: u8, bank: u8 },
+}
+
+/// A page of 4,096 bytes in a block of 512 pages.
+#[derive(Clone, PartialEq, Eq, Debug, Drop)]
+pub struct PageAt {
+    pub block: u32,
+    pub page: u16,
+    pub bytes: Bytes,
+}

@@ -1,0 +1,67 @@
+// A machine's configuration, as a request gives it and as it is checked.
+use crate::{Row, Text};
+
+/// The configuration that `vm.create` takes. All sizes are in bytes.
+#[derive(Clone, PartialEq, Eq, Debug, Drop)]
+pub struct VmConfig {
+    pub cpus: CpuConfig,
+    pub memory: MemConfig,
+    pub disks: Row<DiskConfig>,
+}
+
+/// How many vCPUs are present at boot, and how many there may be.
+#[derive(Clone, Copy, PartialEq, Eq, Debug)]
+pub struct CpuConfig {
+    pub boot: u64,
+    pub max: u64,
+}
+
+/// The memory: `size`, `hotplug` and `hotplugged` are those of the zone `mem0`, and 0 where `zones` has zones.
+#[derive(Clone, PartialEq, Eq, Debug, Drop)]
+pub struct MemConfig {
+    /// Bytes of boot memory.
+    pub size: u64,
+    /// Bytes that can be plugged beyond `size` (`hotplug_size`).
+    pub hotplug: u64,
+    /// Bytes of these that are asked for at boot (`hotplugged_size`).
+    pub hotplugged: u64,
+    /// How memory is plugged (`hotplug_method`).
+    pub way: Hotplug,
+    pub zones: Row<ZoneConfig>,
+}
+
+/// How memory is plugged: by ACPI memory modules, or by a virtio-mem device (VIRTIO 1.2, 5.15).
+#[derive(Clone, Copy, PartialEq, Eq, Debug)]
+pub enum Hotplug {
+    Acpi,
+    VirtioMem,
+}
+
+/// A memory zone, with sizes in bytes as in `MemConfig`.
+#[derive(Clone, PartialEq, Eq, Debug, Drop)]
+pub struct ZoneConfig {
+    pub id: Text,
+    pub size: u64,
+    pub hotplug: u64,
+    pub hotplugged: u64,
+}
+
+/// A disk: the last component of `path` names one of the disks that stand by.
+#[derive(Clone, PartialEq, Eq, Debug, Drop)]
+pub struct DiskConfig {
+    pub path: Text,
+    pub id: Option<Text>,
+    pub readonly: bool,
+    /// `num_queues`, which has to be 1.
+    pub queues: u64,
+    /// The largest size of its queue, in descriptors.
+    pub queue_size: u64,
+}
+
+/// A configuration that breaks no rule: each disk has an id, and `zones` are the zones in effect, which are
+/// the configured ones, or the one zone `mem0` with the memory's own sizes.
+#[derive(Clone, PartialEq, Eq, Debug, Drop)]
+pub struct Checked {
+    pub config: VmConfig,
+    pub zones: Row<ZoneConfig>,
+}

@@ -1,0 +1,111 @@
+// Calls on the control machine, and its history.
+use crate::{
+    Bytes, ContextNote, CountOf, DiskConfig, HandNote, Info, Name, RegAccess, Row, Rule, Text,
+    VmConfig,
+};
+
+/// Where a pause, a shutdown or a delete leads.
+#[derive(Clone, Copy, PartialEq, Eq, Debug)]
+pub enum Goal {
+    Pause,
+    Shutdown,
+    Delete,
+}
+
+/// What a caller takes: a vCPU, or the lowest queue that is ready.
+#[derive(Clone, Copy, PartialEq, Eq, Debug)]
+pub enum Role {
+    Vcpu(u8),
+    Queue,
+}
+
+/// A control call. Sessions make those of the API, `Settle` and `Bye`; runners and workers the others.
+#[derive(Clone, PartialEq, Eq, Debug, Drop)]
+pub enum ControlCall {
+    Ping,
+    Info,
+    Counters,
+    Create(VmConfig),
+    Boot,
+    Begin(Goal),
+    /// Reaches the goal of a `Begin` that was answered `Holding`.
+    Settle,
+    Resume,
+    /// `ram` is in bytes.
+    Resize {
+        vcpus: Option<u64>,
+        ram: Option<u64>,
+    },
+    ResizeZone {
+        zone: Text,
+        ram: u64,
+    },
+    AddDisk(DiskConfig),
+    Remove(Text),
+    Snapshot(Name),
+    Restore(Name),
+    /// The last call of a session.
+    Bye,
+    Take(Role),
+    Hand(HandNote),
+    /// An access of the context with this bank caller number.
+    Reg {
+        context: u32,
+        access: RegAccess,
+    },
+    Mem {
+        slot: u8,
+        request: MemRequest,
+    },
+    Stop,
+}
+
+/// A request to a memory device (VIRTIO 1.2, 5.15.6): its type, a guest address and a number of blocks.
+#[derive(Clone, Copy, PartialEq, Eq, Debug)]
+pub struct MemRequest {
+    pub kind: u16,
+    pub addr: u64,
+    pub blocks: u16,
+}
+
+/// The answer of a memory device: its type and state, and for BUSY the block and who pins it.
+#[derive(Clone, Copy, PartialEq, Eq, Debug)]
+pub struct MemAnswer {
+    pub kind: u16,
+    pub state: u16,
+    pub busy: Option<BusyAt>,
+}
+
+/// A pinned block, and a bank caller that pins it.
+#[derive(Clone, Copy, PartialEq, Eq, Debug)]
+pub struct BusyAt {
+    pub block: u32,
+    pub caller: u32,
+}
+
+/// The answer of the control machine.
+#[derive(Clone, PartialEq, Eq, Debug, Drop)]
+pub enum ControlReply {
+    Done,
+    Shown(Info),
+    /// Ascending by the bytes of the ids.
+    Counted(Row<CountOf>),
+    Added { id: Text, slot: u8 },
+    Holding,
+    /// Refused, and nothing was changed.
+    Ruled(Rule),
+    Taken(ContextNote),
+    Value(u64),
+    Answer(MemAnswer),
+    /// The image that was read.
+    Restored(Bytes),
+}
+
+/// One entry of the control history.
+#[derive(Clone, PartialEq, Eq, Debug, Drop)]
+pub struct ControlEntry {
+    /// 0 is the main thread, 1 to 16 are sessions, 17 + n is the runner of vCPU n, 33 and 34 are the workers.
+    pub caller: u32,
+    pub call: ControlCall,
+    pub reply: ControlReply,
+}

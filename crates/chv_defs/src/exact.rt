@@ -1,0 +1,81 @@
+// Types whose clones are equal to their source.
+ghost use Rattle.std.specs.Prelude.{◌≡◌, IfOk};
+ghost use Rattle.std.proofs.Common.{rules};
+
+use crate::{
+    BankEntry, BookId, ControlCall, ControlEntry, ControlReply, CountOf, DeviceInfo, DiskConfig,
+    Info, PageAt, VmConfig, ZoneConfig, ZoneInfo,
+};
+use std::alloc::AllocError;
+
+/// A type whose clones are equal to their source, as contracts see both.
+pub trait Exact: Clone {
+    ghost exact: { (x y : Self) → Self.is_clone x y → y ≡ x };
+}
+
+/// A clone, which is equal to its source.
+pub fn copy_of<T: Exact>(value: &T) -> Result<T, AllocError>
+    ensures { IfOk result (λ copy. copy ≡ value.now) }
+{
+    value.clone()
+}
+
+impl Exact for u8 {
+    ghost exact = { λ x y h. Prim.search rules };
+}
+
+impl Exact for u32 {
+    ghost exact = { λ x y h. Prim.search rules };
+}
+
+impl Exact for BookId {
+    ghost exact = { λ x y h. Prim.search rules };
+}
+
+impl Exact for PageAt {
+    ghost exact = { λ x y h. Prim.search rules };
+}
+
+impl Exact for BankEntry {
+    ghost exact = { λ x y h. Prim.search rules };
+}
+
+impl Exact for ZoneConfig {
+    ghost exact = { λ x y h. Prim.search rules };
+}
+
+impl Exact for DiskConfig {
+    ghost exact = { λ x y h. Prim.search rules };
+}
+
+impl Exact for VmConfig {
+    ghost exact = { λ x y h. Prim.search rules };
+}
+
+impl Exact for CountOf {
+    ghost exact = { λ x y h. Prim.search rules };
+}
+
+impl Exact for DeviceInfo {
+    ghost exact = { λ x y h. Prim.search rules };
+}
+
+impl Exact for ZoneInfo {
+    ghost exact = { λ x y h. Prim.search rules };
+}
+
+impl Exact for Info {
+    ghost exact = { λ x y h. Prim.search rules };
+}
+
+impl Exact for ControlCall {
+    ghost exact = { λ x y h. Prim.search rules };
+}
+
+impl Exact for ControlReply {
+    ghost exact = { λ x y h. Prim.search rules };
+}
+
+impl Exact for ControlEntry {
+    ghost exact = { λ x y h. Prim.search rules };
+}

@@ -1,0 +1,41 @@
+//! The shared types of chv and, in `specs/`, the definitions that every contract cites.
+#![tactic(auto)]
+
+mod bank;
+mod bytes;
+mod config;
+mod context;
+mod control;
+mod exact;
+mod info;
+mod machine;
+mod name;
+mod register;
+mod row;
+mod rule;
+mod scene;
+mod session;
+mod text;
+mod trace;
+
+pub use bank::{BankCall, BankEntry, BankReply, BookId, Full, PageAt, Refusal, Span};
+pub use bytes::Bytes;
+pub use config::{Checked, CpuConfig, DiskConfig, Hotplug, MemConfig, VmConfig, ZoneConfig};
+pub use context::{
+    ContextNote, CountOf, CpuNote, DeviceKind, DiskCount, HandNote, QueueFault, QueueNote,
+    SliceEnd, StopCause,
+};
+pub use control::{
+    BusyAt, ControlCall, ControlEntry, ControlReply, Goal, MemAnswer, MemRequest, Role,
+};
+pub use exact::{Exact, copy_of};
+pub use info::{DeviceInfo, Info, ShownState, ZoneInfo};
+pub use machine::{Life, Machine};
+pub use name::Name;
+pub use register::RegAccess;
+pub use row::Row;
+pub use rule::{Reason, Rule};
+pub use scene::{Asked, Line, MadeDisk, MathOp, OnShelf, OrderStep, Scene, Script, VcpuSection};
+pub use session::{SessionEnd, SessionLog};
+pub use text::Text;
+pub use trace::{BankTrace, SessionTrace, Trace};

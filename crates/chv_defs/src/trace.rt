@@ -1,0 +1,29 @@
+// Everything that happened in a run.
+use crate::{BankEntry, ControlEntry, MadeDisk, Row, SessionLog, VcpuSection};
+
+/// A run: the disks and scripts of its scenario, the history of the control book and of each bank that
+/// has entries, zones and banks ascending, and what each session took and put.
+#[derive(PartialEq, Eq, Debug, Drop)]
+pub struct Trace {
+    pub disks: Row<MadeDisk>,
+    pub vcpus: Row<VcpuSection>,
+    pub control: Row<ControlEntry>,
+    pub banks: Row<BankTrace>,
+    pub sessions: Row<SessionTrace>,
+}
+
+/// The history of one bank.
+#[derive(PartialEq, Eq, Debug, Drop)]
+pub struct BankTrace {
+    pub zone: u8,
+    pub bank: u8,
+    pub entries: Row<BankEntry>,
+}
+
+/// The log of one session.
+#[derive(PartialEq, Eq, Debug, Drop)]
+pub struct SessionTrace {
+    /// From 1 on.
+    pub session: u8,
+    pub log: SessionLog,
+}
