@@ -1,2 +1,12 @@
 pub mod Name
 pub mod Outside
+pub mod Digits
+pub mod Rules
+pub mod Reasons
+pub mod Replies
+pub mod Machine
+pub mod DefaultConfig
+pub mod Shown
+pub mod ApiStep
+pub mod ControlStep
+pub mod LegalControl
