@@ -1,6 +1,5 @@
 pub mod Name
 pub mod Outside
-pub mod Digits
 pub mod Rules
 pub mod Reasons
 pub mod Replies
