@@ -1,6 +1,6 @@
 -- The calls of the API on the control machine: by which rule a call is refused, what it is answered, and what it
 -- leaves. Built so far are Ping, Info, Create of the default configuration, and Bye.
-use Rattle.std.specs.Prelude.{◌≡◌, ◌<◌, ℕ, Bool, not, List, [], ◌∷◌, Option, Some, None, is_some, if◌then◌else◌, nat_lt, ◌==◌}
+use Rattle.std.specs.Prelude.{◌≡◌, ◌<◌, ℕ, Bool, not, List, [], ◌∷◌, ◌++◌, Option, Some, None, is_some, if◌then◌else◌, nat_lt, ◌==◌}
 use Rattle.chv_defs.specs.declared.machine.Machine.{Machine}
 use Rattle.chv_defs.specs.declared.machine.Life.TheVariants as life
 use Rattle.chv_defs.specs.declared.rule.Rule.{Rule}
@@ -10,7 +10,8 @@ use Rattle.chv_defs.specs.declared.control.ControlCall.TheVariants as call
 use Rattle.chv_defs.specs.declared.control.ControlReply.{ControlReply}
 use Rattle.chv_defs.specs.declared.control.ControlReply.TheVariants as reply
 use Rattle.chv_defs.specs.Shown.{shown}
-use Rattle.chv_defs.specs.DefaultConfig.{default_config, default_checked}
+use Rattle.chv_defs.specs.ConfigRules.{checked_of, cpu_rules, memory_rules, device_rules, first_broken}
+use Rattle.chv_defs.specs.DefaultConfig.{default_config}
 
 -- the calls that are built
 abbrev pub IsBuilt : ControlCall → Type 0
@@ -20,20 +21,15 @@ IsBuilt (call.Create config) = config ≡ default_config
 IsBuilt call.Bye = Unit {0}
 IsBuilt _ = ⊥
 
--- The rules of a call in order, each with whether its condition holds.
-abbrev pub rules_of : Machine → ControlCall → List (Rule × Bool)
-rules_of m call.Info = (NotCreated, not (is_some m.config)) ∷ []
-rules_of m (call.Create config) = (AlreadyCreated, is_some m.config) ∷ []
+-- The rules of a call in order, each beside its condition. No disk stands by so far.
+abbrev pub rules_of : Machine → ControlCall → List (Bool × Rule)
+rules_of m call.Info = (not (is_some m.config), NotCreated) ∷ []
+rules_of m (call.Create config) = (is_some m.config, AlreadyCreated) ∷ (cpu_rules config ++ memory_rules config ++ device_rules [] config)
 rules_of m _ = []
 
--- the first rule whose condition holds
-abbrev pub first_that_holds : List (Rule × Bool) → Option Rule
-first_that_holds [] = None
-first_that_holds (rule ∷ rules) = if rule.1 then Some rule.0 else first_that_holds rules
-
--- the rule by which a call is refused, if one holds
+-- the rule by which a call is refused: the first whose condition holds
 abbrev pub refusal_of : Machine → ControlCall → Option Rule
-refusal_of m c = first_that_holds (rules_of m c)
+refusal_of m c = first_broken (rules_of m c)
 
 -- the answer to a call that no rule refuses
 abbrev pub success_of : Machine → ControlCall → ControlReply
@@ -55,6 +51,6 @@ with_number n (m ∷ ms) = if nat_lt n m then n ∷ m ∷ ms else (if n == m the
 
 -- What a call leaves, with its answer. A call that is refused leaves the state as it was.
 abbrev pub after : Machine → ℕ → ControlCall → ControlReply → Machine
-after m caller (call.Create config) reply.Done = record m { life = life.Created; config = Some default_checked }
+after m caller (call.Create config) reply.Done = record m { life = life.Created; config = Some (checked_of config) }
 after m caller call.Bye reply.Done = record m { ended = with_number caller m.ended }
 after m caller _ _ = m

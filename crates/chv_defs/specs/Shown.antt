@@ -9,7 +9,8 @@ use Rattle.chv_defs.specs.declared.info.Info.{Info}
 use Rattle.chv_defs.specs.declared.info.ZoneInfo.{ZoneInfo}
 use Rattle.chv_defs.specs.declared.info.ShownState.{ShownState}
 use Rattle.chv_defs.specs.declared.info.ShownState.TheVariants as state
-use Rattle.chv_defs.specs.DefaultConfig.{default_checked}
+use Rattle.chv_defs.specs.ConfigRules.{checked_of}
+use Rattle.chv_defs.specs.DefaultConfig.{default_config}
 
 -- The state that is shown. A machine that waits for a pause, a shutdown or a delete is shown as running.
 abbrev pub shown_state : Life → ShownState
@@ -36,4 +37,4 @@ shown_before_boot shown_as checked = record {
 
 -- What is shown of a control state that has a configuration. (It is asked of no other.)
 abbrev pub shown : Machine → Info
-shown m = shown_before_boot (shown_state m.life) (unwrap_or m.config default_checked)
+shown m = shown_before_boot (shown_state m.life) (unwrap_or m.config (checked_of default_config))
