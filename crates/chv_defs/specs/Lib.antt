@@ -13,8 +13,11 @@ pub mod Outside
 pub mod PageContents
 pub mod Reasons
 pub mod Replies
+pub mod Routes
 pub mod Rules
+pub mod ScenarioText
 pub mod SceneText
+pub mod Schedule
 pub mod ScriptText
 pub mod Shown
 pub mod TraceText

@@ -1,6 +1,7 @@
 -- The text of a trace: what `play` and `run` print of everything that happened, and what `check` reads.
 use Rattle.std.specs.Prelude.{ℕ, ◌+◌, Bool, true, false, List, [], ◌∷◌, ◌++◌, length, map, sum_by, flat_map, codes, Option, None, Some}
-use Rattle.json.specs.Print.{quoted}
+use Rattle.serde_json.specs.Data.{string}
+use Rattle.serde_json.specs.Written.{compact_text}
 use Rattle.chv_defs.specs.Numbers.{dec_text, hex_text, pairs}
 use Rattle.chv_defs.specs.JsonTexts.{config_text, disk_text, info_text, counters_text, device_text}
 use Rattle.chv_defs.specs.Rules.{rule_name}
@@ -42,6 +43,10 @@ use Rattle.chv_defs.specs.declared.trace.BankTrace.{BankTrace}
 use Rattle.chv_defs.specs.declared.trace.SessionTrace.{SessionTrace}
 
 -- ---- fields
+
+-- a text as a JSON string (RFC 8259, 7)
+abbrev pub quoted : List ℕ → List ℕ
+quoted text = compact_text (string text)
 
 -- bytes in pairs of hexadecimal digits, or a dash where there is none
 abbrev pub pairs_or_dash : List ℕ → List ℕ
