@@ -21,3 +21,6 @@ pub mod Schedule
 pub mod ScriptText
 pub mod Shown
 pub mod TraceText
+pub mod FailingCalls
+pub mod Disks
+pub mod Links

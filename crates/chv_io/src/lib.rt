@@ -1,0 +1,17 @@
+//! What chv reads and writes outside: traits with a written meaning, objects in memory, and adapters of std's.
+#![tactic(auto)]
+
+mod calls;
+mod failed;
+mod mem_sink;
+mod mem_source;
+mod sink;
+mod source;
+
+pub use calls::Calls;
+pub use failed::Failed;
+pub use mem_sink::MemSink;
+pub use mem_source::MemSource;
+pub use sink::Sink;
+pub use source::Source;
+
