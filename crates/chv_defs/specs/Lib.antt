@@ -24,3 +24,6 @@ pub mod TraceText
 pub mod FailingCalls
 pub mod Disks
 pub mod Links
+pub mod Numbers
+pub mod JsonTexts
+pub mod JsonBodies
