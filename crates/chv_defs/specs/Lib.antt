@@ -1,3 +1,5 @@
 pub mod Name
 pub mod Outside
 pub mod Replies
+pub mod HttpFront
+pub mod Requests
