@@ -27,3 +27,6 @@ pub mod Links
 pub mod Numbers
 pub mod JsonTexts
 pub mod JsonBodies
+pub mod Replies
+pub mod HttpFront
+pub mod Requests
