@@ -3,9 +3,14 @@ pub mod BlockSets
 pub mod ConfigRules
 pub mod ControlStep
 pub mod DefaultConfig
+pub mod Disks
+pub mod FailingCalls
+pub mod HttpFront
 pub mod Id
+pub mod JsonBodies
 pub mod JsonTexts
 pub mod LegalControl
+pub mod Links
 pub mod Machine
 pub mod Name
 pub mod Numbers
@@ -13,6 +18,7 @@ pub mod Outside
 pub mod PageContents
 pub mod Reasons
 pub mod Replies
+pub mod Requests
 pub mod Routes
 pub mod Rules
 pub mod ScenarioText
@@ -21,12 +27,3 @@ pub mod Schedule
 pub mod ScriptText
 pub mod Shown
 pub mod TraceText
-pub mod FailingCalls
-pub mod Disks
-pub mod Links
-pub mod Numbers
-pub mod JsonTexts
-pub mod JsonBodies
-pub mod Replies
-pub mod HttpFront
-pub mod Requests
