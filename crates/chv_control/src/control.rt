@@ -59,7 +59,7 @@ impl Control {
 
     /// Makes a call of a session: appends its one entry, and answers it. An `Err` changes nothing.
     pub fn apply(&mut self, caller: u32, call: &ControlCall) -> Result<ControlReply, AllocError>
-        requires { MayCall caller call.now }
+        requires { MayCall self.old.machine caller call.now }
         ensures reply { IfOk result (λ reply. reply ≡ reply_to self.old.machine call.now) }
         ensures state { IfOk result (λ reply. self.new.machine ≡ after self.old.machine caller call.now reply) }
         ensures entry { IfOk result (λ reply. self.new.history

@@ -4,8 +4,13 @@
 mod api;
 mod control;
 mod ended;
+mod laws;
 mod show;
 mod start;
 
 pub use control::Control;
+pub use laws::refusals_change_nothing;
 pub use start::Start;
+
+#[cfg(test)]
+mod tests;

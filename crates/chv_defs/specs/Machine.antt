@@ -1,6 +1,5 @@
 -- The control state before anything happened, and what holds of every control state.
-use Rattle.std.specs.Prelude.{◌≡◌, ◌≤◌, ◌<◌, ◌↔◌, ℕ, List, [], ◌∷◌, Option, Some, None, false, All}
-use Rattle.std.specs.List.Sorted.{IsStrictlyIncreasing}
+use Rattle.std.specs.Prelude.{◌≡◌, ◌≤◌, ◌<◌, ◌↔◌, ℕ, List, [], ◌∷◌, Option, Some, None, false}
 use Rattle.chv_defs.specs.declared.machine.Machine.{Machine}
 use Rattle.chv_defs.specs.declared.machine.Life.TheVariants as life
 
@@ -12,9 +11,13 @@ empty_machine = record { life = life.None; config = None; ended = []; stopped = 
 abbrev pub IsSession : ℕ → Type 0
 IsSession caller = (1 ≤ caller) × (caller ≤ 16)
 
--- A control state is well formed where it has a configuration exactly where there is a machine, and the sessions
--- that have ended are named once each, ascending.
+-- These are numbers of sessions above one, ascending.
+abbrev pub AreSessionsAbove : ℕ → List ℕ → Type 0
+AreSessionsAbove low [] = Unit {0}
+AreSessionsAbove low (caller ∷ callers) = (low < caller) × (caller ≤ 16) × AreSessionsAbove caller callers
+
+-- A control state is well formed where it has a configuration exactly where there is a machine, and the ended ones are
+-- sessions, ascending.
 pub record IsWellFormed (m : Machine) : Type 0 where
   pub life_and_config : (m.life ≡ life.None) ↔ (m.config ≡ None)
-  pub sessions : All IsSession m.ended
-  pub ascending : IsStrictlyIncreasing m.ended
+  pub sessions : AreSessionsAbove 0 m.ended
