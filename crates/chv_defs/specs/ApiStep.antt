@@ -10,7 +10,7 @@ use Rattle.chv_defs.specs.declared.control.ControlCall.TheVariants as call
 use Rattle.chv_defs.specs.declared.control.ControlReply.{ControlReply}
 use Rattle.chv_defs.specs.declared.control.ControlReply.TheVariants as reply
 use Rattle.chv_defs.specs.Shown.{shown}
-use Rattle.chv_defs.specs.ConfigRules.{checked_of, cpu_rules, memory_rules, device_rules, first_broken}
+use Rattle.chv_defs.specs.ConfigRules.{checked_of, config_rules, first_broken}
 use Rattle.chv_defs.specs.DefaultConfig.{default_config}
 
 -- the calls that are built
@@ -21,26 +21,27 @@ IsBuilt (call.Create config) = config ≡ default_config
 IsBuilt call.Bye = Unit {0}
 IsBuilt _ = ⊥
 
--- The rules of a call in order, each beside its condition. No disk stands by so far.
+-- The rules of a built call in order, each beside its condition. No disk stands by so far.
 abbrev pub rules_of : Machine → ControlCall → List (Bool × Rule)
 rules_of m call.Info = (not (is_some m.config), NotCreated) ∷ []
-rules_of m (call.Create config) = (is_some m.config, AlreadyCreated) ∷ (cpu_rules config ++ memory_rules config ++ device_rules [] config)
+rules_of m (call.Create config) = (is_some m.config, AlreadyCreated) ∷ config_rules [] config
 rules_of m _ = []
 
--- the rule by which a call is refused: the first whose condition holds
+-- the rule by which a built call is refused: the first whose condition holds
 abbrev pub refusal_of : Machine → ControlCall → Option Rule
 refusal_of m c = first_broken (rules_of m c)
 
--- the answer to a call that no rule refuses
+-- the answer to a built call that no rule refuses
 abbrev pub success_of : Machine → ControlCall → ControlReply
 success_of m call.Info = reply.Shown (shown m)
 success_of m _ = reply.Done
 
+-- a refusal by rule, or else the success
 abbrev pub refused_or : Option Rule → ControlReply → ControlReply
 refused_or (Some rule) success = reply.Ruled rule
 refused_or None success = success
 
--- the answer to a call
+-- the answer to a built call
 abbrev pub reply_to : Machine → ControlCall → ControlReply
 reply_to m c = refused_or (refusal_of m c) (success_of m c)
 
@@ -49,7 +50,7 @@ abbrev pub with_number : ℕ → List ℕ → List ℕ
 with_number n [] = n ∷ []
 with_number n (m ∷ ms) = if nat_lt n m then n ∷ m ∷ ms else (if n == m then m ∷ ms else m ∷ with_number n ms)
 
--- What a call leaves, with its answer. A call that is refused leaves the state as it was.
+-- What a built call leaves, with its answer. A call that is refused leaves the state as it was.
 abbrev pub after : Machine → ℕ → ControlCall → ControlReply → Machine
 after m caller (call.Create config) reply.Done = record m { life = life.Created; config = Some (checked_of config) }
 after m caller call.Bye reply.Done = record m { ended = with_number caller m.ended }

@@ -225,9 +225,13 @@ abbrev pub first_broken : List (Bool × Rule) → Option Rule
 first_broken [] = None
 first_broken (row ∷ rows) = if row.0 then Some row.1 else first_broken rows
 
+-- the rules of a configuration where disks of these names stand by, in their order, each beside its condition
+abbrev pub config_rules : List (List ℕ) → VmConfig → List (Bool × Rule)
+config_rules names config = cpu_rules config ++ memory_rules config ++ device_rules names config
+
 -- the verdict of a configuration where disks of these names stand by: the lowest rule that it breaks, if it breaks one
 abbrev pub verdict : List (List ℕ) → VmConfig → Option Rule
-verdict names config = first_broken (cpu_rules config ++ memory_rules config ++ device_rules names config)
+verdict names config = first_broken (config_rules names config)
 
 -- ---- default ids, and the configuration that is kept
 

@@ -1,4 +1,4 @@
--- The configuration that an empty body asks for (Cloud Hypervisor REST API v1, VmConfig).
+-- The configuration that the body `{}` asks for (Cloud Hypervisor REST API v1, VmConfig).
 use Rattle.std.specs.Prelude.{[]}
 use Rattle.chv_defs.specs.declared.config.VmConfig.{VmConfig}
 use Rattle.chv_defs.specs.declared.config.Hotplug.TheVariants.{Acpi}
@@ -8,4 +8,5 @@ abbrev pub default_config : VmConfig
 default_config = record {
   cpus = record { boot = 1; max = 1 };
   memory = record { size = 536870912; hotplug = 0; hotplugged = 0; way = Acpi; zones = [] };
-  disks = [] }
+  disks = [];
+}

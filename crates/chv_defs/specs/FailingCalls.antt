@@ -25,5 +25,5 @@ abbrev pub after_call : Calls → Bool → Calls
 after_call calls failed = record {
   listed = calls.listed;
   made = one_more calls.made;
-  faults = (if failed then one_more calls.faults else calls.faults)
+  faults = (if failed then one_more calls.faults else calls.faults);
 }

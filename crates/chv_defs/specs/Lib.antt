@@ -16,6 +16,7 @@ pub mod Name
 pub mod Numbers
 pub mod Outside
 pub mod PageContents
+pub mod ProgramText
 pub mod Reasons
 pub mod Replies
 pub mod Requests

@@ -3,6 +3,7 @@ use Rattle.std.specs.Prelude.{ℕ, List, codes}
 use Rattle.chv_defs.specs.declared.rule.Reason.{Reason}
 use Rattle.chv_defs.specs.declared.rule.Reason.TheVariants.{UnknownWord, FieldCount, BadRegister, BadWidth, BadNumber, BadHex, BadName, UnknownLabel, LabelTwice, Unended, OutOfOrder, TooMany, NotHere, Unclosed, BadTrace, NotBuilt}
 
+-- the name that is printed
 abbrev pub reason_name : Reason → List ℕ
 reason_name UnknownWord = codes "UnknownWord"
 reason_name FieldCount = codes "FieldCount"

@@ -1,9 +1,9 @@
--- The routes of the API (Cloud Hypervisor REST API v1): which control call a request makes, and which reply the answer
--- to it is. Built so far are `vmm.ping`, `vm.info`, and `vm.create` with the body `{}`.
+-- The routes of the API (Cloud Hypervisor REST API v1; the bodies of `vmm.ping` and of a refusal are this project's own):
+-- which control call a request makes, and which reply the answer to it is. Built so far are `vmm.ping`, `vm.info`, and `vm.create` with the body `{}`.
 use Rattle.std.specs.Prelude.{ℕ, ◌&&◌, false, List, [], ◌∷◌, ◌++◌, codes, Option, None, Some, if◌then◌else◌}
 use Rattle.std.specs.Str.{bytes_eq}
 use Rattle.chv_defs.specs.DefaultConfig.{default_config}
-use Rattle.chv_defs.specs.JsonTexts.{info_text}
+use Rattle.chv_defs.specs.JsonTexts.{info_text, counters_text, device_text}
 use Rattle.chv_defs.specs.Rules.{rule_name, rule_status}
 use Rattle.chv_defs.specs.Replies.{reply_of_status}
 use Rattle.chv_defs.specs.declared.rule.Rule.{Rule}
@@ -34,12 +34,15 @@ abbrev pub rule_body : Rule → List ℕ
 rule_body rule = codes "{\"rule\":\"" ++ rule_name rule ++ codes "\"}"
 
 -- the status and the body of the answer to a call: those of the rule where it is refused, and else those of its route
+-- (it is not asked of Holding, after which the caller settles)
 abbrev pub status_and_body : ControlCall → ControlReply → ℕ × Option (List ℕ)
 status_and_body c (reply.Ruled rule) = (rule_status rule, Some (rule_body rule))
 status_and_body c (reply.Shown info) = (200, Some (info_text info))
+status_and_body c (reply.Counted counts) = (200, Some (counters_text counts))
+status_and_body c (reply.Added id slot) = (200, Some (device_text (record { slot = slot; id = id })))
 status_and_body call.Ping r = (200, Some ping_body)
 status_and_body c r = (204, None)
 
 -- the bytes of the reply to a request whose call was answered so, and after which the connection stays open
-abbrev pub reply_bytes : ControlEntry → List ℕ
-reply_bytes e = let answer = status_and_body e.call e.reply in reply_of_status answer.0 answer.1 false
+abbrev pub reply_of : ControlEntry → List ℕ
+reply_of e = let answer = status_and_body e.call e.reply in reply_of_status answer.0 answer.1 false

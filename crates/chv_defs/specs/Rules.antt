@@ -1,4 +1,5 @@
--- Each rule's name, and the HTTP status of a reply that names it (RFC 9110, 15).
+-- Each rule's name, and the HTTP status of a reply that names it. The names, and which rule has which status, are this
+-- project's own; RFC 9110, 15 says what the statuses mean.
 use Rattle.std.specs.Prelude.{ℕ, List, codes}
 use Rattle.chv_defs.specs.declared.rule.Rule.{Rule}
 use Rattle.chv_defs.specs.declared.rule.Rule.TheVariants.{BadHead, BadLength, BodyTooLong, Coded, NoRoute, NotJson, Missing, NotObject, NotList, NotText, NotWhole, NotBool, BadName, NotCreated, AlreadyCreated, Held, NotBooted, AlreadyBooted, NotRunning, NotPaused, BootZero, BootAboveMax, VcpusAboveLimit, ZonesNeedSizeZero, ZonesOwnHotplug, SizeZero, TooManyZones, ZoneIdBad, ZoneIdTwice, SizeUnaligned, ZoneTooLarge, HotpluggedAbove, WayForZones, WayAcpi, DiskUnknown, DiskTwice, DeviceIdBad, DeviceIdTwice, QueueShape, TooManyDevices, VcpuCount, RemovalPending, ByZone, ZoneUnknown, RamRange, DeviceUnknown, DeviceFixed, DeviceLeaving, SlotsFull, VaultFault, ImageMissing, BadImage, NotBuilt}
@@ -59,8 +60,7 @@ rule_name ImageMissing = codes "ImageMissing"
 rule_name (BadImage place) = codes "BadImage"
 rule_name NotBuilt = codes "NotBuilt"
 
--- 404 where what the request names is not there, 500 where the machine is in another state than the call asks for,
--- and 400 where the request itself is refused
+-- the HTTP status of a reply that names the rule
 abbrev pub rule_status : Rule → ℕ
 rule_status BadHead = 400
 rule_status BadLength = 400

@@ -1,4 +1,4 @@
--- The scenarios that are read so far: one session of at most 1,000 requests, each of a route that is built.
+-- The scenarios that are read so far, in a format of this project's own: one session of at most 1,000 requests, each of a route that is built.
 use Rattle.std.specs.Prelude.{◌≡◌, ◌≤◌, ℕ, List, length, IsSome}
 use Rattle.std.specs.List.{AllByRecursion}
 use Rattle.chv_defs.specs.declared.scene.Asked.{Asked}

@@ -1,6 +1,6 @@
--- The serial schedule: from a scenario the one trace that `play` gives. So far a scenario has one session, whose
+-- The serial schedule, which is this project's own: from a scenario the one trace that `play` gives. So far a scenario has one session, whose
 -- requests are played one after another, and then its Bye.
-use Rattle.std.specs.Prelude.{ℕ, List, [], ◌∷◌, ◌++◌, flat_map}
+use Rattle.std.specs.Prelude.{◌≡◌, ℕ, List, [], ◌∷◌, ◌++◌, flat_map}
 use Rattle.std.specs.List.{filter_map}
 use Rattle.chv_defs.specs.declared.machine.Machine.{Machine}
 use Rattle.chv_defs.specs.declared.control.ControlCall.{ControlCall}
@@ -12,8 +12,10 @@ use Rattle.chv_defs.specs.declared.session.SessionEnd.TheVariants as session
 use Rattle.chv_defs.specs.declared.trace.Trace.{Trace}
 use Rattle.chv_defs.specs.Machine.{empty_machine}
 use Rattle.chv_defs.specs.ApiStep.{reply_to, after}
+use Rattle.chv_defs.specs.LegalControl.{IsLegal, calls_by}
+use Rattle.chv_defs.specs.ScenarioText.{IsPlayable}
 use Rattle.chv_defs.specs.SceneText.{request_bytes}
-use Rattle.chv_defs.specs.Routes.{call_of, reply_bytes}
+use Rattle.chv_defs.specs.Routes.{call_of, reply_of}
 
 -- the entry of a call
 abbrev pub entry_of : Machine → ℕ → ControlCall → ControlEntry
@@ -32,8 +34,9 @@ calls_of requests = filter_map call_of requests
 abbrev pub session_log : List Asked → SessionLog
 session_log requests = record {
   asked = flat_map request_bytes requests;
-  replied = flat_map reply_bytes (entries_of empty_machine 1 (calls_of requests));
-  end = session.Ended }
+  replied = flat_map reply_of (entries_of empty_machine 1 (calls_of requests));
+  end = session.Ended;
+}
 
 -- The trace of a scenario with this one session: its calls and its Bye are the control history, and no bank has an entry.
 abbrev pub schedule : List Asked → Trace
@@ -42,4 +45,12 @@ schedule requests = record {
   vcpus = [];
   control = entries_of empty_machine 1 (calls_of requests ++ call.Bye ∷ []);
   banks = [];
-  sessions = record { session = 1; log = session_log requests } ∷ [] }
+  sessions = record { session = 1; log = session_log requests } ∷ [];
+}
+
+-- The law of the schedule: its control history is legal, and the session's calls are those of its requests in order, and
+-- then one Bye.
+abbrev pub ScheduleIsLegal : Type 0
+ScheduleIsLegal = (requests : List Asked) → IsPlayable requests →
+    ((machine : Machine) × IsLegal (schedule requests).control machine)
+    × (calls_by 1 (schedule requests).control ≡ calls_of requests ++ call.Bye ∷ [])

@@ -1,4 +1,4 @@
--- How a script is spelled: one instruction a line, fields separated by one space.
+-- How a script is spelled, in a format of this project's own: one instruction a line, fields separated by one space.
 use Rattle.std.specs.Prelude.{ℕ, List, [], ◌∷◌, ◌++◌, flat_map, codes}
 use Rattle.chv_defs.specs.Numbers.{dec_text, hex_text, pairs}
 use Rattle.chv_defs.specs.declared.scene.Line.{Line}
@@ -15,6 +15,7 @@ field text = 32 ∷ text
 abbrev pub register : ℕ → List ℕ
 register r = codes "r" ++ dec_text r
 
+-- an operation on registers
 abbrev pub operation : MathOp → List ℕ
 operation op.Add = codes "add"
 operation op.Sub = codes "sub"

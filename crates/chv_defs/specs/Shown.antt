@@ -1,4 +1,5 @@
--- What `vm.info` shows of a control state (Cloud Hypervisor API v1, VmInfo).
+-- What `vm.info` shows of a control state. Its shape is this project's own; the configuration in it is the `VmConfig` of
+-- the Cloud Hypervisor REST API v1.
 use Rattle.std.specs.Prelude.{ℕ, List, [], map, sum_by, unwrap_or}
 use Rattle.chv_defs.specs.declared.config.ZoneConfig.{ZoneConfig}
 use Rattle.chv_defs.specs.declared.config.Checked.{Checked}
@@ -33,8 +34,10 @@ shown_before_boot shown_as checked = record {
   actual_size = sum_by (λ (zone : ZoneConfig). zone.size) checked.zones;
   state = shown_as;
   vcpus = [];
-  zones = map zone_before_boot checked.zones }
+  zones = map zone_before_boot checked.zones;
+}
 
--- What is shown of a control state that has a configuration. (It is asked of no other.)
+-- What is shown of a control state that has a configuration and is not booted, as every one is so far. (It is asked of
+-- no other.)
 abbrev pub shown : Machine → Info
 shown m = shown_before_boot (shown_state m.life) (unwrap_or m.config (checked_of default_config))

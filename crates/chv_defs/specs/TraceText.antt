@@ -1,4 +1,4 @@
--- The text of a trace: what `play` and `run` print of everything that happened, and what `check` reads.
+-- The text of a trace, in a format of this project's own: what is printed of everything that happened in a run.
 use Rattle.std.specs.Prelude.{ℕ, ◌+◌, Bool, true, false, List, [], ◌∷◌, ◌++◌, length, map, sum_by, flat_map, codes, Option, None, Some}
 use Rattle.serde_json.specs.Data.{string}
 use Rattle.serde_json.specs.Written.{compact_text}
@@ -58,7 +58,7 @@ abbrev pub number_or_dash : Option ℕ → List ℕ
 number_or_dash None = codes "-"
 number_or_dash (Some n) = dec_text n
 
--- numbers, each after a space
+-- numbers in hexadecimal, each after a space
 abbrev pub hex_fields : List ℕ → List ℕ
 hex_fields numbers = flat_map (λ n. field (hex_text n)) numbers
 
@@ -77,16 +77,19 @@ abbrev pub book_fields : List BookId → List ℕ
 book_fields [] = field (codes "-")
 book_fields (b ∷ bs) = flat_map (λ x. field (book_text x)) (b ∷ bs)
 
+-- blocks that follow each other: the first, and how many
 abbrev pub span_fields : Span → List ℕ
 span_fields span = field (dec_text span.first) ++ field (dec_text span.count)
 
 -- ---- control calls
 
+-- where a pause, a shutdown or a delete leads
 abbrev pub goal_text : Goal → List ℕ
 goal_text goal.Pause = codes "pause"
 goal_text goal.Shutdown = codes "shutdown"
 goal_text goal.Delete = codes "delete"
 
+-- what is taken
 abbrev pub role_text : Role → List ℕ
 role_text (role.Vcpu n) = codes "vcpu" ++ field (dec_text n)
 role_text role.Queue = codes "queue"
@@ -96,6 +99,7 @@ abbrev pub note_text : ContextNote → List ℕ
 note_text (note.Cpu n) = codes "cpu" ++ field (dec_text n.vcpu) ++ field (dec_text n.pos) ++ field (dec_text n.fuel) ++ field (flag n.halted) ++ hex_fields n.regs
 note_text (note.Queue n) = codes "slot" ++ field (dec_text n.slot) ++ field (dec_text n.last) ++ field (dec_text n.used) ++ field (dec_text n.counts.reads) ++ field (dec_text n.counts.writes) ++ field (dec_text n.counts.read_bytes) ++ field (dec_text n.counts.write_bytes)
 
+-- what is wrong with a queue, with the guest address where a part of it is not open memory
 abbrev pub fault_text : QueueFault → List ℕ
 fault_text fault.BadIndex = codes "BadIndex"
 fault_text fault.Loop = codes "Loop"
@@ -106,7 +110,7 @@ fault_text fault.Short = codes "Short"
 fault_text (fault.RingClosed addr) = codes "RingClosed" ++ field (hex_text addr)
 fault_text (fault.BufferClosed addr) = codes "BufferClosed" ++ field (hex_text addr)
 
--- how a slice ended; a slice that the run stopped stands in no printed trace
+-- how a slice ended (no trace that is printed has a slice that the run stopped)
 abbrev pub slice_end_text : SliceEnd → List ℕ
 slice_end_text end.Full = codes "full"
 slice_end_text end.Idle = codes "idle"
@@ -121,7 +125,7 @@ access_text context (access.Out width port value) = codes "out" ++ field (dec_te
 access_text context (access.MmioRead width addr) = codes "mmr" ++ field (dec_text context) ++ field (dec_text width) ++ field (hex_text addr)
 access_text context (access.MmioWrite width addr value) = codes "mmw" ++ field (dec_text context) ++ field (dec_text width) ++ field (hex_text addr) ++ field (hex_text value)
 
--- a control call; a stop stands in no printed trace
+-- a control call (no trace that is printed has a stop)
 abbrev pub call_text : ControlCall → List ℕ
 call_text call.Ping = codes "ping"
 call_text call.Info = codes "info"
@@ -146,7 +150,7 @@ call_text call.Stop = codes "stop"
 
 -- ---- control replies
 
--- BUSY adds the block and its caller
+-- the block and its caller, where the answer names them, which is BUSY
 abbrev pub busy_fields : Option BusyAt → List ℕ
 busy_fields None = []
 busy_fields (Some busy) = field (dec_text busy.block) ++ field (dec_text busy.caller)
@@ -156,6 +160,7 @@ abbrev pub rule_text : Rule → List ℕ
 rule_text (BadImage place) = codes "BadImage" ++ field (dec_text place)
 rule_text rule = rule_name rule
 
+-- a control reply
 abbrev pub reply_text : ControlReply → List ℕ
 reply_text reply.Done = codes "done"
 reply_text (reply.Shown info) = codes "shown" ++ field (info_text info)
@@ -166,7 +171,7 @@ reply_text (reply.Ruled rule) = codes "rule" ++ field (rule_text rule)
 reply_text (reply.Taken n) = codes "taken" ++ field (note_text n)
 reply_text (reply.Value value) = codes "value" ++ field (hex_text value)
 reply_text (reply.Answer answer) = codes "answer" ++ field (dec_text answer.kind) ++ field (dec_text answer.state) ++ busy_fields answer.busy
-reply_text (reply.Restored image) = codes "restored" ++ field (pairs_or_dash image)
+reply_text (reply.Restored image) = codes "restored" ++ field (pairs image)
 
 -- an entry: the caller, the call, an arrow, the reply
 abbrev pub control_line : ControlEntry → List ℕ
@@ -174,6 +179,7 @@ control_line e = dec_text e.caller ++ field (call_text e.call) ++ codes " -> " +
 
 -- ---- banks
 
+-- a call on a bank
 abbrev pub bank_call_text : BankCall → List ℕ
 bank_call_text (bank.Shape blocks) = codes "shape" ++ field (dec_text blocks)
 bank_call_text bank.Wipe = codes "wipe"
@@ -183,16 +189,17 @@ bank_call_text (bank.Unseal span) = codes "unseal" ++ span_fields span
 bank_call_text (bank.Close span) = codes "close" ++ span_fields span
 bank_call_text bank.Freeze = codes "freeze"
 bank_call_text bank.Thaw = codes "thaw"
-bank_call_text (bank.Fill block page bytes) = codes "fill" ++ field (dec_text block) ++ field (dec_text page) ++ field (pairs_or_dash bytes)
+bank_call_text (bank.Fill block page bytes) = codes "fill" ++ field (dec_text block) ++ field (dec_text page) ++ field (pairs bytes)
 bank_call_text bank.Show = codes "show"
 bank_call_text (bank.Read block offset len) = codes "read" ++ field (dec_text block) ++ field (dec_text offset) ++ field (dec_text len)
-bank_call_text (bank.Write block offset bytes) = codes "write" ++ field (dec_text block) ++ field (dec_text offset) ++ field (pairs_or_dash bytes)
+bank_call_text (bank.Write block offset bytes) = codes "write" ++ field (dec_text block) ++ field (dec_text offset) ++ field (pairs bytes)
 bank_call_text (bank.Pin number span) = codes "pin" ++ field (dec_text number) ++ span_fields span
 bank_call_text (bank.Unpin number) = codes "unpin" ++ field (dec_text number)
 
+-- the answer of a bank
 abbrev pub bank_reply_text : BankReply → List ℕ
 bank_reply_text banked.Done = codes "done"
-bank_reply_text (banked.Got bytes) = codes "got" ++ field (pairs_or_dash bytes)
+bank_reply_text (banked.Got bytes) = codes "got" ++ field (pairs bytes)
 bank_reply_text banked.Sealed = codes "sealed"
 bank_reply_text (banked.Busy block caller) = codes "busy" ++ field (dec_text block) ++ field (dec_text caller)
 bank_reply_text banked.Closed = codes "closed"
@@ -200,6 +207,7 @@ bank_reply_text (banked.Pages n) = codes "pages" ++ field (dec_text n)
 bank_reply_text banked.Pinned = codes "pinned"
 bank_reply_text (banked.Fault block) = codes "fault" ++ field (dec_text block)
 
+-- an entry of a bank: the caller, the call, an arrow, the reply
 abbrev pub bank_line : BankEntry → List ℕ
 bank_line e = dec_text e.caller ++ field (bank_call_text e.call) ++ codes " -> " ++ bank_reply_text e.reply ++ codes "\n"
 
@@ -209,7 +217,7 @@ bank_part b = codes "bank" ++ field (dec_text b.zone) ++ field (dec_text b.bank)
 
 -- ---- sessions
 
--- how a session ended; one that the run stopped stands in no printed trace
+-- how a session ended (no trace that is printed has one that the run stopped)
 abbrev pub session_end_text : SessionEnd → List ℕ
 session_end_text session.Ended = codes "ended"
 session_end_text session.Cut = codes "cut"
@@ -219,7 +227,7 @@ session_end_text session.Fault = codes "fault"
 session_end_text session.Limit = codes "limit"
 session_end_text session.Stopped = codes "stopped"
 
--- a session: its number and its end, the bytes that it took, and the bytes that it put
+-- a session: its number and its end, the bytes that it took, and the replies that were put
 abbrev pub session_part : SessionTrace → List ℕ
 session_part s = codes "session" ++ field (dec_text s.session) ++ field (session_end_text s.log.end) ++ codes "\nask" ++ field (pairs_or_dash s.log.asked) ++ codes "\nreply" ++ field (pairs_or_dash s.log.replied) ++ codes "\n"
 

@@ -3,7 +3,7 @@ ghost use Rattle.std.specs.Prelude.{◌≡◌};
 ghost use Rattle.chv_defs.specs.Rules.{rule_name, rule_status};
 ghost use Rattle.chv_defs.specs.Reasons.{reason_name};
 
-/// The rule by which a request or a control call is refused. docs/API.md has each rule's HTTP status.
+/// The rule by which a request or a control call is refused.
 #[derive(Clone, Copy, PartialEq, Eq, Debug)]
 pub enum Rule {
     /// The head of a request is no HTTP head.
@@ -170,8 +170,22 @@ impl Rule {
         ensures { result ≡ rule_status self }
     {
         match self {
-            Rule::NoRoute | Rule::NotCreated | Rule::ZoneUnknown | Rule::DeviceUnknown | Rule::ImageMissing => 404,
-            Rule::AlreadyCreated | Rule::Held | Rule::NotBooted | Rule::AlreadyBooted | Rule::NotRunning | Rule::NotPaused | Rule::RemovalPending | Rule::DeviceLeaving | Rule::SlotsFull | Rule::VaultFault | Rule::NotBuilt => 500,
+            Rule::NoRoute
+            | Rule::NotCreated
+            | Rule::ZoneUnknown
+            | Rule::DeviceUnknown
+            | Rule::ImageMissing => 404,
+            Rule::AlreadyCreated
+            | Rule::Held
+            | Rule::NotBooted
+            | Rule::AlreadyBooted
+            | Rule::NotRunning
+            | Rule::NotPaused
+            | Rule::RemovalPending
+            | Rule::DeviceLeaving
+            | Rule::SlotsFull
+            | Rule::VaultFault
+            | Rule::NotBuilt => 500,
             _ => 400,
         }
     }
