@@ -17,5 +17,5 @@ abbrev pub after_put : Jar → List ℕ → Jar
 after_put jar bytes = record {
   written = (if put_fails jar bytes then jar.written else jar.written ++ bytes);
   room = jar.room;
-  calls = after_call jar.calls (put_fails jar bytes)
+  calls = after_call jar.calls (put_fails jar bytes);
 }

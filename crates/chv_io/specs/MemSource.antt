@@ -12,5 +12,5 @@ pub record Feed : Type 0 where
 abbrev pub after_take : Feed → ℕ → Feed
 after_take feed room = record {
   left = (if is_listed feed.calls then feed.left else drop room feed.left);
-  calls = after_call feed.calls (is_listed feed.calls)
+  calls = after_call feed.calls (is_listed feed.calls);
 }

@@ -1,5 +1,5 @@
 // The calls of an object in memory, of which listed ones fail.
-ghost use Rattle.std.specs.Prelude.{◌≡◌};
+ghost use Rattle.std.specs.Prelude.{◌≡◌, ◌≤◌};
 ghost use Rattle.chv_defs.specs.FailingCalls.{no_calls, is_listed, after_call};
 
 use chv_defs::Row;
@@ -44,7 +44,8 @@ impl Calls {
 
     /// Counts a call, which failed or not. Both counts stand still at their type's end.
     pub fn count(&mut self, failed: bool)
-        ensures { self.new ≡ after_call self.old failed }
+        ensures after { self.new ≡ after_call self.old failed }
+        ensures later { self.old.faults ≤ self.new.faults }
     {
         self.made = self.made.saturating_add(1);
         if failed {

@@ -7,6 +7,8 @@ mod mem_sink;
 mod mem_source;
 mod sink;
 mod source;
+mod std_sink;
+mod std_source;
 
 pub use calls::Calls;
 pub use failed::Failed;
@@ -14,4 +16,8 @@ pub use mem_sink::MemSink;
 pub use mem_source::MemSource;
 pub use sink::Sink;
 pub use source::Source;
+pub use std_sink::StdSink;
+pub use std_source::StdSource;
 
+#[cfg(test)]
+mod tests;

@@ -19,7 +19,7 @@ pub struct MemSink {
 }
 
 impl Model for MemSink {
-    ghost use Rattle.std.specs.Prelude.{◌≤◌, ◌×◌, vec_len, vec_capacity};
+    ghost use Rattle.std.specs.Prelude.{◌≤◌, vec_len, vec_capacity};
     ghost use Rattle.chv_io.specs.MemSink.{Jar};
 
     ghost Value = { Jar };
