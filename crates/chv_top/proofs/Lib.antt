@@ -2,3 +2,6 @@ pub mod Builts
 pub mod Lines
 pub mod Printed
 pub mod Replied
+pub mod Saying
+pub mod Whole
+pub mod Words

@@ -4,3 +4,6 @@ pub mod Head
 pub mod Outcome
 pub mod Played
 pub mod Request
+pub mod Stop
+pub mod Taken
+pub mod Words

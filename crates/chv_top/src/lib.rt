@@ -1,8 +1,15 @@
 //! The top call: all that the program `chv` does, over any input and output.
 #![tactic(auto)]
 
+mod input;
 mod play;
 mod print;
+mod program;
 mod reply;
 mod request;
 mod scenario;
+mod status;
+mod top;
+
+pub use status::{Ended, Status};
+pub use top::{play_program, run_program};

@@ -1,0 +1,5 @@
+use Rattle.chv_top.proofs.Words.{play_iff}
+use Rattle.chv_top.proofs.top.are_play.Goals as goal
+
+pub returns-in-len1 : goal.returns-in-len1
+returns-in-len1 c = play_iff c.args.words.now c.word-item.result c.as_str.result.now c.eq.result c.in-len1.len_at_least c.in-len1.len_below c.word-item.is c.as_str.ensures.value c.eq.ensures
