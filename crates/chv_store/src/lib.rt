@@ -6,3 +6,6 @@ mod mem_disk;
 
 pub use any_disk::AnyDisk;
 pub use mem_disk::MemDisk;
+
+#[cfg(test)]
+mod tests;
