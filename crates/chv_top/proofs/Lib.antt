@@ -1,0 +1,4 @@
+pub mod Builts
+pub mod Lines
+pub mod Printed
+pub mod Replied

@@ -1,0 +1,2 @@
+-- What a status of the program says.
+use Rattle.std.specs.Prelude.{◌≡◌, ℕ, List}
