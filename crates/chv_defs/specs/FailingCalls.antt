@@ -1,5 +1,5 @@
 -- The calls of an object in memory that fails at listed calls: how many it has had, and how many of them failed.
-use Rattle.std.specs.Prelude.{ℕ, ◌+◌, ◌-◌, ◌^◌, ◌==◌, min, Bool, List, if◌then◌else◌}
+use Rattle.std.specs.Prelude.{◌≡◌, ◌↔◌, ℕ, ◌+◌, ◌-◌, ◌^◌, ◌==◌, min, Bool, false, List, Option, None, Some, Result, IsOk, if◌then◌else◌}
 use Rattle.std.specs.List.{list_any}
 
 -- One more. A count stands still at the end of its type.
@@ -27,3 +27,8 @@ after_call calls failed = record {
   made = one_more calls.made;
   faults = (if failed then one_more calls.faults else calls.faults);
 }
+
+-- Where an object tells which of its calls fail, exactly the listed ones do. No call changes whether it is told.
+abbrev pub FailsAsListed : {T E : Type 0} → Option Calls → Option Calls → Result T E → Type 0
+FailsAsListed None after result = after ≡ None
+FailsAsListed (Some before) after result = (after ≡ Some (after_call before (is_listed before))) × (IsOk result ↔ (is_listed before ≡ false))

@@ -1,6 +1,6 @@
 -- What a connection means besides what it has left and what was put into it: the bytes that it gave, told or not, and
 -- whether it was closed.
-use Rattle.std.specs.Prelude.{◌≡◌, ℕ, ◌++◌, List, take, Bool, Option, None, Some, Result, Ok, Err}
+use Rattle.std.specs.Prelude.{◌≡◌, ◌≤◌, ℕ, ◌++◌, List, [], take, Bool, false, Option, None, Some, IfSome, Result, Ok, Err}
 
 -- A read adds its bytes to those that were given, and a failed one adds none. No call changes whether it is told.
 abbrev pub Gives : {E : Type 0} → Option (List ℕ) → Option (List ℕ) → List ℕ → Result ℕ E → Type 0
@@ -8,3 +8,24 @@ Gives None after buffer result = after ≡ None
 Gives (Some before) None buffer result = ⊥
 Gives (Some before) (Some after) buffer (Ok n) = after ≡ before ++ take n buffer
 Gives (Some before) (Some after) buffer (Err _) = after ≡ before
+
+-- What a read leaves of a connection: what was put, whether it is closed, and a count of write faults that does not
+-- fall.
+pub record ReadLeaves (put put_after : Option (List ℕ)) (closed closed_after : Bool) (faults faults_after : ℕ) : Type 0 where
+  pub put_stays : put_after ≡ put
+  pub closed_stays : closed_after ≡ closed
+  pub later : faults ≤ faults_after
+
+-- What a write leaves of a connection: what is left to read, what was given, whether it is closed, and a count of read
+-- faults that does not fall.
+pub record WriteLeaves (left left_after given given_after : Option (List ℕ)) (closed closed_after : Bool) (faults faults_after : ℕ) : Type 0 where
+  pub left_stays : left_after ≡ left
+  pub given_stays : given_after ≡ given
+  pub closed_stays : closed_after ≡ closed
+  pub later : faults ≤ faults_after
+
+-- A connection that was just accepted gave nothing, nothing was put into it, and it is not closed.
+pub record IsNew (given put : Option (List ℕ)) (closed : Bool) : Type 0 where
+  pub gave_nothing : IfSome given (λ bytes. bytes ≡ [])
+  pub nothing_put : IfSome put (λ bytes. bytes ≡ [])
+  pub not_closed : closed ≡ false

@@ -1,3 +1,4 @@
-pub mod MemSource
+pub mod MemLink
 pub mod MemSink
+pub mod MemSource
 pub mod Wrapped

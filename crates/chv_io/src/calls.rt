@@ -1,7 +1,9 @@
 // The calls of an object in memory, of which listed ones fail.
-ghost use Rattle.std.specs.Prelude.{◌≡◌, ◌≤◌};
+ghost use Rattle.std.specs.Prelude.{◌≡◌, ◌≤◌, ◌↔◌, false, IsOk};
+ghost use Rattle.chv_defs.specs.Outside.{HasCause};
 ghost use Rattle.chv_defs.specs.FailingCalls.{no_calls, is_listed, after_call};
 
+use crate::Failed;
 use chv_defs::Row;
 use std::marker::Model;
 
@@ -51,6 +53,17 @@ impl Calls {
         if failed {
             self.faults = self.faults.saturating_add(1);
         }
+    }
+
+    /// Counts the next call, which fails where it is listed.
+    pub fn answer(&mut self) -> Result<(), Failed>
+        ensures answered { IsOk result ↔ (is_listed self.old ≡ false) }
+        ensures after { self.new ≡ after_call self.old (is_listed self.old) }
+        ensures cause { HasCause self.old.faults self.new.faults result }
+    {
+        let failed = self.is_listed();
+        self.count(failed);
+        if failed { Err(Failed) } else { Ok(()) }
     }
 
     /// How many calls failed.

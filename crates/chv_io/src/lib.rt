@@ -2,7 +2,10 @@
 #![tactic(auto)]
 
 mod calls;
+mod disk;
 mod failed;
+mod link;
+mod mem_link;
 mod mem_sink;
 mod mem_source;
 mod sink;
@@ -11,7 +14,10 @@ mod std_sink;
 mod std_source;
 
 pub use calls::Calls;
+pub use disk::Disk;
 pub use failed::Failed;
+pub use link::{Link, read_from, write_to};
+pub use mem_link::MemLink;
 pub use mem_sink::MemSink;
 pub use mem_source::MemSource;
 pub use sink::Sink;

@@ -29,7 +29,7 @@ impl Model for MemSource {
 }
 
 /// Copies what fits to the front of a buffer, and says how many bytes that is.
-fn copy_front(from: &[u8], to: &mut [u8]) -> usize
+pub(crate) fn copy_front(from: &[u8], to: &mut [u8]) -> usize
     ensures count { result ≡ min (length to.old) (length from.now) }
     ensures copied { to.new ≡ take result from.now ++ drop result to.old }
 {
@@ -69,11 +69,7 @@ impl Source for MemSource {
         ensures count { IfOk result (λ n. n ≡ min (length buf.old) (length self.old.left)) }
         ensures after { self.new ≡ after_take self.old (length buf.old) }
     {
-        let failed = self.calls.is_listed();
-        self.calls.count(failed);
-        if failed {
-            return Err(Failed);
-        }
+        self.calls.answer()?;
         let count = copy_front(&self.bytes.as_slice()[self.taken..], buf);
         self.taken += count;
         Ok(count)

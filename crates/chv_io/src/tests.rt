@@ -107,6 +107,24 @@ fn sink_in_memory(rt: HostRuntime) -> Result<(), Fail> {
 }
 
 #[test]
+fn link_in_memory(rt: HostRuntime) -> Result<(), Fail> {
+    let alloc = rt.alloc();
+    let fail = Row::new([2].to_vec(alloc)?);
+    let mut link = MemLink::new(alloc, Bytes::of(alloc, b"hello")?, 2, 3, fail)?;
+    let mut buf = [0; 4];
+    assert!(rt; read_from(&mut link, &mut buf) == Ok(2));
+    assert!(rt; read_from(&mut link, &mut buf) == Err(Failed));
+    assert!(rt; write_to(&mut link, b"abc") == Ok(()));
+    assert!(rt; write_to(&mut link, b"d") == Err(Failed));
+    assert!(rt; !link.is_closed());
+    link.close();
+    assert!(rt; link.is_closed());
+    assert!(rt; link.written() == b"abc".as_slice());
+    assert_eq!(rt; gives(&rt, alloc, &mut link, b"llo", true)?, 2);
+    Ok(())
+}
+
+#[test]
 fn source_over_a_reader(rt: HostRuntime) -> Result<(), Fail> {
     let alloc = rt.alloc();
     let mut source = StdSource::new(b"hello".as_slice());

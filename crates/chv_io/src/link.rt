@@ -1,0 +1,65 @@
+// Connections.
+ghost use Rattle.std.specs.Prelude.{◌≡◌, ◌<◌, ℕ, List, Bool, true, Option, Result, length};
+ghost use Rattle.std.specs.Io.{ReadsAtMost};
+ghost use Rattle.chv_defs.specs.Outside.{Takes, Puts, HasCause};
+ghost use Rattle.chv_defs.specs.Links.{Gives, ReadLeaves, WriteLeaves};
+ghost use Rattle.chv_io.specs.declared.failed.Failed.{Failed};
+
+use crate::{Failed, Sink, Source};
+
+/// A connection: bytes that come, bytes that go, and an end. Its calls are those of a source and of a sink, and
+/// `read_from` and `write_to` say all that these do to a connection.
+pub trait Link: Source + Sink {
+    /// The bytes that it gave, where it tells them.
+    ghost gave: { Self → Option (List ℕ) };
+
+    /// Whether it was closed.
+    ghost closed: { Self → Bool };
+
+    /// Ends the connection. This cannot fail, and changes nothing else that the connection tells.
+    fn close(&mut self)
+        ensures closed { closed self.new ≡ true }
+        ensures left { Self.left self.new ≡ Self.left self.old }
+        ensures gave { gave self.new ≡ gave self.old }
+        ensures written { Self.written self.new ≡ Self.written self.old }
+        ensures read_faults { Self.read_faults self.new ≡ Self.read_faults self.old }
+        ensures write_faults { Self.write_faults self.new ≡ Self.write_faults self.old };
+
+    /// A read adds its bytes to those that were given.
+    ghost gives: { (before after : Self) (buffer : List ℕ) (result : Result ℕ Failed)
+        → Self.on_take before after buffer result → Gives (gave before) (gave after) buffer result };
+
+    /// A read leaves what was put, and whether the connection is closed.
+    ghost read_leaves: { (before after : Self) (buffer : List ℕ) (result : Result ℕ Failed)
+        → Self.on_take before after buffer result
+        → ReadLeaves (Self.written before) (Self.written after) (closed before) (closed after)
+        (Self.write_faults before) (Self.write_faults after) };
+
+    /// A write leaves what is left and what was given, and whether the connection is closed.
+    ghost write_leaves: { (before after : Self) → Self.on_put before after
+        → WriteLeaves (Self.left before) (Self.left after) (gave before) (gave after) (closed before) (closed after)
+        (Self.read_faults before) (Self.read_faults after) };
+}
+
+/// `take` of a connection, with all that it does to one.
+pub fn read_from<L: Link>(link: &mut L, buf: &mut [u8]) -> Result<usize, Failed>
+    requires { 0 < length buf.old }
+    ensures bytes { Takes (L.left link.old) (L.left link.new) buf.new result }
+    ensures bound { ReadsAtMost result buf.new }
+    ensures cause { HasCause (L.read_faults link.old) (L.read_faults link.new) result }
+    ensures gives { Gives (L.gave link.old) (L.gave link.new) buf.new result }
+    ensures leaves { ReadLeaves (L.written link.old) (L.written link.new) (L.closed link.old) (L.closed link.new)
+        (L.write_faults link.old) (L.write_faults link.new) }
+{
+    link.take(buf)
+}
+
+/// `put` of a connection, with all that it does to one.
+pub fn write_to<L: Link>(link: &mut L, bytes: &[u8]) -> Result<(), Failed>
+    ensures bytes { Puts (L.written link.old) (L.written link.new) bytes.now result }
+    ensures cause { HasCause (L.write_faults link.old) (L.write_faults link.new) result }
+    ensures leaves { WriteLeaves (L.left link.old) (L.left link.new) (L.gave link.old) (L.gave link.new)
+        (L.closed link.old) (L.closed link.new) (L.read_faults link.old) (L.read_faults link.new) }
+{
+    link.put(bytes)
+}

@@ -1,0 +1,2 @@
+pub mod AnyDisk
+pub mod MemDisk

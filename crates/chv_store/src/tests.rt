@@ -1,0 +1,51 @@
+use super::*;
+use chv_defs::Row;
+use chv_io::{Disk, Failed};
+use std::alloc::Global;
+use std::test::Fail;
+
+/// A sector of one byte's copies.
+const ONES: [u8; 512] = [1; 512];
+
+/// Writes ones to a sector and reads it and the next one: the three answers, and the last bytes that were read.
+fn write_and_read<D: Disk>(disk: &mut D) -> ([bool; 3], u8, u8) {
+    if disk.sectors() < 3 {
+        return ([false; 3], 0, 0);
+    }
+    let mut here = [0; 512];
+    let mut next = [2; 512];
+    let wrote = disk.write(1, &ONES).is_ok();
+    let read = disk.read(1, &mut here).is_ok();
+    let read_next = disk.read(2, &mut next).is_ok();
+    ([wrote, read, read_next], here[511], next[511])
+}
+
+fn blank(alloc: Global, fail: &[u64]) -> Result<MemDisk, Fail> {
+    Ok(MemDisk::new(alloc, 3, Row::new(fail.to_vec(alloc)?))?)
+}
+
+#[test]
+fn disk_in_memory(rt: HostRuntime) -> Result<(), Fail> {
+    let mut disk = blank(rt.alloc(), &[])?;
+    assert!(rt; write_and_read(&mut disk) == ([true, true, true], 1, 0));
+    assert!(rt; disk.flush() == Ok(()));
+    assert_eq!(rt; disk.disk_faults(), 0);
+    // The write fails and leaves zeros.
+    let mut disk = blank(rt.alloc(), &[1, 4])?;
+    assert!(rt; write_and_read(&mut disk) == ([false, true, true], 0, 0));
+    assert!(rt; disk.flush() == Err(Failed));
+    assert_eq!(rt; disk.disk_faults(), 2);
+    Ok(())
+}
+
+#[test]
+fn disk_of_either_kind(rt: HostRuntime) -> Result<(), Fail> {
+    let mut given: AnyDisk<MemDisk> = AnyDisk::Given(blank(rt.alloc(), &[3])?);
+    assert!(rt; write_and_read(&mut given) == ([true, true, false], 1, 2));
+    assert!(rt; given.flush() == Ok(()));
+    assert_eq!(rt; given.disk_faults(), 1);
+    let mut made: AnyDisk<MemDisk> = AnyDisk::Made(blank(rt.alloc(), &[])?);
+    assert!(rt; write_and_read(&mut made) == ([true, true, true], 1, 0));
+    assert_eq!(rt; made.disk_faults(), 0);
+    Ok(())
+}
