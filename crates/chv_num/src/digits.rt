@@ -1,6 +1,7 @@
 // Numbers as texts of digits.
-ghost use Rattle.std.specs.Prelude.{◌≡◌, ◌≤◌, ◌^◌, ◌==◌, ◌||◌, not, nat_lt, length, slice_index, Some, None, if◌then◌else◌};
+ghost use Rattle.std.specs.Prelude.{◌≡◌, ◌+◌, ◌*◌, ◌≤◌, ◌^◌, ◌==◌, ◌||◌, not, nat_lt, length, slice_index, Some, None, if◌then◌else◌};
 ghost use Rattle.std.specs.Char.{digit_value as value_of_digit};
+ghost use Rattle.std.specs.List.{list_all};
 ghost use Rattle.std.specs.Str.Parse.{digits_value};
 ghost use Rattle.chv_defs.specs.Numbers.{is_decimal_digit, is_hex_digit, are_digits, dec, hex};
 
@@ -28,23 +29,43 @@ pub(crate) fn digit(byte: u8) -> u8
     }
 }
 
-fn has_leading_zero(text: &[u8]) -> bool
+fn has_no_leading_zero(text: &[u8]) -> bool
     requires { 1 ≤ length text.now }
-    ensures { result ≡ not (length text.now == 1 || not (slice_index text.now 0 == 48)) }
+    ensures { result ≡ (length text.now == 1 || not (slice_index text.now 0 == 48)) }
 {
-    text.len() != 1 && text[0] == b'0'
+    text.len() == 1 || text[0] != b'0'
+}
+
+fn all_decimal(text: &[u8]) -> bool
+    ensures { result ≡ list_all is_decimal_digit text.now }
+{
+    text.iter().all(|b| is_decimal(*b))
+}
+
+fn all_hex(text: &[u8]) -> bool
+    ensures { result ≡ list_all is_hex_digit text.now }
+{
+    text.iter().all(|b| is_hex(*b))
 }
 
 fn are_decimal(text: &[u8]) -> bool
     ensures { result ≡ are_digits is_decimal_digit text.now }
 {
-    !text.is_empty() && text.iter().all(|b| is_decimal(*b)) && !has_leading_zero(text)
+    0 < text.len() && all_decimal(text) && has_no_leading_zero(text)
 }
 
 fn are_hex(text: &[u8]) -> bool
     ensures { result ≡ are_digits is_hex_digit text.now }
 {
-    !text.is_empty() && text.iter().all(|b| is_hex(*b)) && !has_leading_zero(text)
+    0 < text.len() && all_hex(text) && has_no_leading_zero(text)
+}
+
+/// The number with one digit more, where it is below 2^64.
+fn with_digit(value: u64, base: u64, digit: u8) -> Option<u64>
+    ensures { result ≡ (if nat_lt (value * base + digit) (2 ^ 64)
+        then Some (value * base + digit) else None) }
+{
+    value.checked_mul(base)?.checked_add(digit as u64)
 }
 
 /// The number that digits of a base spell, where it is below 2^64.
@@ -55,7 +76,10 @@ fn number(text: &[u8], base: u64) -> Option<u64>
 {
     let mut value: u64 = 0;
     for byte in text {
-        value = value.checked_mul(base)?.checked_add(digit(*byte) as u64)?;
+        match with_digit(value, base, digit(*byte)) {
+            Some(more) => value = more,
+            None => return None,
+        }
     }
     Some(value)
 }
