@@ -1,7 +1,8 @@
 // A configuration, read from a JSON value.
 ghost use Rattle.std.specs.Prelude.{◌≡◌};
 ghost use Rattle.serde_json.specs.View.{view};
-ghost use Rattle.chv_defs.specs.JsonBodies.{cpus_in, zone_in, memory_in, disk_in, empty_object, config_in};
+ghost use Rattle.chv_defs.specs.JsonBodies.{cpus_in, zone_in, memory_in};
+ghost use Rattle.chv_defs.specs.JsonBodies.{disk_in, empty_object, config_in};
 ghost use Rattle.chv_json.specs.Gives.{Gives};
 
 use crate::fields::{

@@ -99,7 +99,8 @@ pub fn disk_of(alloc: Global, body: &[u8]) -> Result<Result<DiskConfig, Rule>, A
     answer(disk(alloc, body))
 }
 
-/// The vCPUs and the bytes of memory that the body of `vm.resize` asks for, or the first rule that it breaks.
+/// The vCPUs and the bytes of memory that the body of `vm.resize` asks for, or the first rule
+/// that it breaks.
 pub fn resize_of(
     alloc: Global,
     body: &[u8],
@@ -109,7 +110,8 @@ pub fn resize_of(
     answer(resize(alloc, body))
 }
 
-/// The zone and its bytes of memory that the body of `vm.resize-zone` asks for, or the first rule that it breaks.
+/// The zone and its bytes of memory that the body of `vm.resize-zone` asks for, or the first rule
+/// that it breaks.
 pub fn zone_of(alloc: Global, body: &[u8]) -> Result<Result<(Text, u64), Rule>, AllocError>
     ensures { IfOk result (λ r. r ≡ bodies.zone_of body.now) }
 {

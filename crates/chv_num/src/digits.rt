@@ -1,5 +1,6 @@
 // Numbers as texts of digits.
-ghost use Rattle.std.specs.Prelude.{◌≡◌, ◌+◌, ◌*◌, ◌≤◌, ◌^◌, ◌==◌, ◌||◌, not, nat_lt, length, slice_index, Some, None, if◌then◌else◌};
+ghost use Rattle.std.specs.Prelude.{◌≡◌, ◌+◌, ◌*◌, ◌≤◌, ◌^◌, ◌==◌, ◌||◌, not, nat_lt};
+ghost use Rattle.std.specs.Prelude.{length, slice_index, Some, None, if◌then◌else◌};
 ghost use Rattle.std.specs.Char.{digit_value as value_of_digit};
 ghost use Rattle.std.specs.List.{list_all};
 ghost use Rattle.std.specs.Str.Parse.{digits_value};
@@ -84,7 +85,8 @@ fn number(text: &[u8], base: u64) -> Option<u64>
     Some(value)
 }
 
-/// The number that a text spells in decimal, without leading zeros. None where the text spells no number below 2^64.
+/// The number that a text spells in decimal, without leading zeros. None where the text spells no
+/// number below 2^64.
 pub fn read_dec(text: &[u8]) -> Option<u64>
     ensures { result ≡ dec text.now }
 {
@@ -95,8 +97,8 @@ pub fn read_dec(text: &[u8]) -> Option<u64>
     }
 }
 
-/// The number that a text spells as `0x` and lower-case hexadecimal digits, without leading zeros. None where the
-/// text spells no number below 2^64.
+/// The number that a text spells as `0x` and lower-case hexadecimal digits, without leading zeros.
+/// None where the text spells no number below 2^64.
 pub fn read_hex(text: &[u8]) -> Option<u64>
     ensures { result ≡ hex text.now }
 {

@@ -11,8 +11,8 @@ fn is_field_width(width: usize) -> bool
     width == 1 || width == 2 || width == 4 || width == 8
 }
 
-/// The number in the field of `width` bytes that begins at place `at`. None where `width` is none of 1, 2, 4 and 8, or
-/// the field runs past the end.
+/// The number in the field of `width` bytes that begins at place `at`. None where `width` is none
+/// of 1, 2, 4 and 8, or the field runs past the end.
 pub fn get_le(bytes: &[u8], at: usize, width: usize) -> Option<u64>
     ensures { result ≡ le_field bytes.now at width }
 {

@@ -1,4 +1,4 @@
-//! Numbers as texts and as bytes: decimal, hexadecimal, pairs of hexadecimal digits, and little-endian fields.
+//! Numbers as texts and as bytes: decimal and hexadecimal texts, pairs and little-endian fields.
 #![tactic(auto)]
 
 mod digits;

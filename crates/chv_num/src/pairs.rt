@@ -48,7 +48,8 @@ fn bytes_in(alloc: Global, text: &[u8]) -> Result<Option<Vec<u8>>, AllocError>
     }
 }
 
-/// The bytes that a text spells in pairs of lower-case hexadecimal digits. None where it spells none, or not a single byte.
+/// The bytes that a text spells in pairs of lower-case hexadecimal digits. None where it spells
+/// none, or not a single byte.
 pub fn bytes_of_hex(alloc: Global, text: &[u8]) -> Result<Option<Vec<u8>>, AllocError>
     ensures { IfOk result (λ found. option_map (λ v. v.items) found ≡ bytes_of text.now) }
 {
