@@ -22,8 +22,9 @@ abbrev pub ◌>>=◌ : {A B : Type 0} → Result A Rule → (A → Result B Rule
 Ok x >>= f = f x
 Err rule >>= f = Err rule
 
--- The value that the bytes spell, where they are UTF-8 and one JSON text with at most 127 levels. Of a key that stands
--- twice in an object the last one counts.
+-- The value that the bytes spell, where they are UTF-8 and one JSON text with at most 127 levels, in which each number
+-- is within the range of a float and each surrogate escape stands in a pair (RFC 8259, sections 6, 8.2 and 9, leaves
+-- these to the reader). Of a key that stands twice in an object the last one counts.
 abbrev pub value_of : List ℕ → Result Data Rule
 value_of bytes = ok_or (if is_utf8 bytes then read bytes else None) NotJson
 
@@ -41,7 +42,7 @@ a_list d = ok_or (as_array d) NotList
 abbrev pub a_text : Data → Result (List ℕ) Rule
 a_text d = ok_or (as_str d) NotText
 
--- an integer from 0 to 2^64 - 1 that is written without a fraction or an exponent
+-- an integer from 0 to 2^64 - 1 that is written as digits alone: without a sign, a fraction or an exponent
 abbrev pub a_whole : Data → Result ℕ Rule
 a_whole d = ok_or (option_and_then as_u64 (as_number d)) NotWhole
 

@@ -118,7 +118,7 @@ config_text c = compact_text (config_value c)
 unfoldable pub disk_text : DiskConfig → List ℕ
 disk_text d = compact_text (disk_value d)
 
--- the text of a device and where it stands, which answers a disk that was added to a running machine
+-- the text of a device and where it stands, which answers a disk that was added to a machine that is booted
 unfoldable pub device_text : DeviceInfo → List ℕ
 device_text d = compact_text (device_value d)
 

@@ -1,1 +1,4 @@
 pub mod Floatless
+pub mod Front
+pub mod Spelled
+pub mod Again

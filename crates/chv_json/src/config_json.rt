@@ -1,5 +1,6 @@
-// A configuration as a JSON value. Keys are written in any order: an object of serde_json keeps them in byte order.
-ghost use Rattle.chv_defs.specs.JsonTexts.{method_value, cpus_value, zone_value, memory_value, disk_value, config_value};
+// A configuration as a JSON value. An object of serde_json keeps its keys in byte order.
+ghost use Rattle.chv_defs.specs.JsonTexts.{method_value, cpus_value, zone_value};
+ghost use Rattle.chv_defs.specs.JsonTexts.{memory_value, disk_value, config_value};
 
 use crate::to_json::{ToJson, array};
 use chv_defs::{CpuConfig, DiskConfig, Hotplug, MemConfig, VmConfig, ZoneConfig};

@@ -2,7 +2,8 @@
 ghost use Rattle.std.specs.Prelude.{◌≡◌, IfOk, string_bytes, ◌<◌};
 ghost use Rattle.serde_json.specs.Data.{no_members};
 ghost use Rattle.serde_json.specs.View.{view};
-ghost use Rattle.chv_defs.specs.JsonTexts.{bdf_text, device_value, zone_info_value, state_value, info_value, count_value, counters_value};
+ghost use Rattle.chv_defs.specs.JsonTexts.{bdf_text, device_value, zone_info_value};
+ghost use Rattle.chv_defs.specs.JsonTexts.{state_value, info_value, count_value, counters_value};
 
 use crate::to_json::{ToJson, array};
 use chv_defs::{CountOf, DeviceInfo, DiskCount, Info, ShownState, ZoneInfo};

@@ -33,7 +33,8 @@ pub fn disk_text(alloc: Global, disk: &DiskConfig) -> Result<Text, AllocError>
     compact(alloc, disk.to_json(alloc)?)
 }
 
-/// The text of a device and its PCI address, which answers a disk that was added to a running machine.
+/// The text of a device and its PCI address, which answers a disk that was added to a machine that
+/// is booted.
 #[tactic(auto, unfolding(chv_defs::specs::JsonTexts::device_text))]
 pub fn device_text(alloc: Global, device: &DeviceInfo) -> Result<Text, AllocError>
     ensures { IfOk result (λ t. t ≡ texts.device_text device.now) }

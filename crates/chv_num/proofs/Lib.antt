@@ -1,0 +1,7 @@
+pub mod Values
+pub mod Front
+pub mod Spelling
+pub mod Bases
+pub mod HexSpelling
+pub mod PairSpelling
+pub mod FieldSpelling
