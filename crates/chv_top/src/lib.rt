@@ -2,6 +2,7 @@
 #![tactic(auto)]
 
 mod input;
+mod laws;
 mod play;
 mod print;
 mod program;
@@ -11,5 +12,6 @@ mod scenario;
 mod status;
 mod top;
 
+pub use laws::schedule_is_legal;
 pub use status::{Ended, Status};
 pub use top::{play_program, run_program};
