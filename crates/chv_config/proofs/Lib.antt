@@ -1,0 +1,4 @@
+pub mod Components
+pub mod Firsts
+pub mod DefaultIds
+pub mod Twice
