@@ -9,7 +9,9 @@ use chv_defs::{Name, Row, Text, VmConfig};
 pub fn default_id_is_lowest(ids: &[Text])
     ensures free { is_free ids.now (lowest_free ids.now) ≡ true }
     ensures lowest { (k : ℕ) → k < lowest_free ids.now → is_free ids.now k ≡ false }
-{}
+{
+    let _count = ids.len();
+}
 
 /// In a configuration that is kept each disk has an id, the devices' ids are distinct, and at most 31 devices stand.
 pub fn kept_devices_are_distinct(config: &VmConfig, names: &Row<Name>)
