@@ -45,24 +45,24 @@ erase t (x ∷ xs) = cond (bytes_eq t x) xs (x ∷ erase t xs)
 
 erase-length : (t : List ℕ) (xs : List (List ℕ)) → has_text xs t ≡ true → length (erase t xs) + 1 ≡ length xs
 erase-length t [] h = cc
-erase-length t (x ∷ xs) h = by (bytes_eq t x) h
+erase-length t (x ∷ xs) h = by (bytes_eq t x) h (erase-length t xs)
   where
-    by : (b : Bool) → (b || has_text xs t) ≡ true → length (cond b xs (x ∷ erase t xs)) + 1 ≡ length (x ∷ xs)
-    by true g = omega arith
-    by false g = omega (arith, erase-length t xs g)
+    by : (b : Bool) → (b || has_text xs t) ≡ true → (has_text xs t ≡ true → length (erase t xs) + 1 ≡ length xs) → length (cond b xs (x ∷ erase t xs)) + 1 ≡ length (x ∷ xs)
+    by true g f = omega arith
+    by false g f = omega (arith, f g)
 
 erase-keeps : (t q : List ℕ) (xs : List (List ℕ)) → bytes_eq q t ≡ false → has_text xs q ≡ true → has_text (erase t xs) q ≡ true
 erase-keeps t q [] apart h = h
-erase-keeps t q (x ∷ xs) apart h = by (bytes_eq t x) (bytes_eq q x) refl refl h
+erase-keeps t q (x ∷ xs) apart h = by (bytes_eq t x) (bytes_eq q x) refl refl h (erase-keeps t q xs apart)
   where
-    by : (b d : Bool) → bytes_eq t x ≡ b → bytes_eq q x ≡ d → (d || has_text xs q) ≡ true → has_text (cond b xs (x ∷ erase t xs)) q ≡ true
-    by true true e f g =
+    by : (b d : Bool) → bytes_eq t x ≡ b → bytes_eq q x ≡ d → (d || has_text xs q) ≡ true → (has_text xs q ≡ true → has_text (erase t xs) q ≡ true) → has_text (cond b xs (x ∷ erase t xs)) q ≡ true
+    by true true e f g k =
         let same : t ≡ x = (bytes_eq-Decides t x).0 e in
         let other : bytes_eq q x ≡ false = ap (bytes_eq q) (sym same) ∙ apart in
         cc
-    by true false e f g = g
-    by false true e f g = rw f refl
-    by false false e f g = rw f (erase-keeps t q xs apart g)
+    by true false e f g k = g
+    by false true e f g k = rw f refl
+    by false false e f g k = rw f (k g)
 
 -- default ids of different numbers differ
 default_id-apart : (j n : ℕ) → j < n → n < 2 ^ 64 → bytes_eq (default_id j) (default_id n) ≡ false
@@ -77,7 +77,7 @@ used-le zero ids small used = omega arith
 used-le (suc n) ids small used =
     let last : has_text ids (default_id n) ≡ true = used n (omega arith) in
     let rest : n ≤ length (erase (default_id n) ids) =
-        used-le n (erase (default_id n) ids) (omega arith) (λ j less. erase-keeps (default_id n) (default_id j) ids (default_id-apart j n less (omega arith)) (used j (omega arith))) in
+    used-le n (erase (default_id n) ids) (omega arith) (λ j less. erase-keeps (default_id n) (default_id j) ids (default_id-apart j n less (omega arith)) (used j (omega arith))) in
     omega (arith, erase-length (default_id n) ids last)
 
 not_free : (b : Bool) → not b ≡ false → b ≡ true
@@ -96,6 +96,7 @@ lowest_free-is ids small = by (find (is_free ids) (range_with_len 0 (length ids)
       where
         used : (j : ℕ) → j ≤ length ids → has_text ids (default_id j) ≡ true
         used j low = not_free (has_text ids (default_id j)) (elim (cases_lt j (length ids)) [ inl less ↦ below j less | inr more ↦ (let same : j ≡ length ids = omega arith in ap (is_free ids) same ∙ e) ])
+
     by : (found : Option ℕ) → IsFirstPassing (is_free ids) 0 (length ids) found → (is_free ids (unwrap_or found (length ids)) ≡ true) × ((j : ℕ) → j < unwrap_or found (length ids) → is_free ids j ≡ false)
     by None first = let below : (j : ℕ) → j < length ids → is_free ids j ≡ false = λ j less. first j (omega arith) (omega arith) in (next below (is_free ids (length ids)) refl, below)
     by (Some m) first = (first.2, λ j less. first.3 j (omega arith) less)

@@ -2,3 +2,4 @@ pub mod Components
 pub mod Firsts
 pub mod DefaultIds
 pub mod Twice
+pub mod Kept

@@ -14,8 +14,8 @@ returns-then-not-branch c =
 pub loop-text-preserved : goal.loop-text-preserved
 loop-text-preserved c =
     let absent : has_text c.loop-text.seen.keys c.in-Some.text ≡ false = was_absent c.in_ok-insert.field-0 _ c.in_ok-insert.ensures.added c.if-not-branch.false in
-    let unseen : has_text c.loop-text.yielded c.in-Some.text ≡ false = sym (c.loop-text.invariant.1 c.in-Some.text) ∙ absent in
-    ( has_twice-none c.loop-text.yielded c.in-Some.text c.loop-text.invariant.0 unseen
-    , seen-step c.loop-text.seen.keys c.insert.new.self.keys c.loop-text.yielded c.in-Some.text c.in_ok-insert.ensures.updates.0 c.loop-text.invariant.1
-    , items-step c.loop-text.yielded c.in-Some.text (into_iter_items c.next.new.self) _ c.args.texts.items c.in-Some.ensures.steps.0 c.loop-text.invariant.2
+    let unseen : has_text c.loop-text.yielded c.in-Some.text ≡ false = sym (c.loop-text.invariant.1 c.in-Some.text) ∙ absent in (
+      has_twice-none c.loop-text.yielded c.in-Some.text c.loop-text.invariant.0 unseen,
+      seen-step c.loop-text.seen.keys c.insert.new.self.keys c.loop-text.yielded c.in-Some.text c.in_ok-insert.ensures.updates.0 c.loop-text.invariant.1,
+      items-step c.loop-text.yielded c.in-Some.text (into_iter_items c.next.new.self) _ c.args.texts.items c.in-Some.ensures.steps.0 c.loop-text.invariant.2,
     )
