@@ -1,0 +1,5 @@
+use Rattle.chv_set.proofs.SetLists.{no_blocks-is}
+use Rattle.chv_set.proofs.block_set.BlockSet.new.Goals as goal
+
+pub returns : goal.returns
+returns c = ?
