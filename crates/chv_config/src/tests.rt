@@ -139,59 +139,47 @@ fn vcpus_and_memory(rt: HostRuntime) -> Result<(), Fail> {
 #[test]
 fn zones(rt: HostRuntime) -> Result<(), Fail> {
     let alloc = rt.alloc();
-    let one: Zone = ("z0", GIB, 0, 0);
+    let one = ("z0", GIB, 0, 0);
     let long = "a23456789012345678901234";
     let too_long = "a234567890123456789012345";
-    for (memory, zones, rule) in [
-        ((0, 0, 0), [one, ("z1", GIB, 0, 0)], None),
+    for (memory, second, rule) in [
+        ((0, 0, 0), ("z1", GIB, 0, 0), None),
         (
             (GIB, 0, 0),
-            [one, ("z1", GIB, 0, 0)],
+            ("z1", GIB, 0, 0),
             Some(Rule::ZonesNeedSizeZero),
         ),
         (
             (0, 2 * MIB, 0),
-            [one, ("z1", GIB, 0, 0)],
+            ("z1", GIB, 0, 0),
             Some(Rule::ZonesOwnHotplug),
         ),
         (
             (0, 0, 2 * MIB),
-            [one, ("z1", GIB, 0, 0)],
+            ("z1", GIB, 0, 0),
             Some(Rule::ZonesOwnHotplug),
         ),
-        ((0, 0, 0), [one, ("z1", 0, 0, 0)], Some(Rule::SizeZero)),
-        ((0, 0, 0), [one, ("", GIB, 0, 0)], Some(Rule::ZoneIdBad)),
-        ((0, 0, 0), [one, ("z.1", GIB, 0, 0)], Some(Rule::ZoneIdBad)),
-        ((0, 0, 0), [one, (long, GIB, 0, 0)], None),
+        ((0, 0, 0), ("z1", 0, 0, 0), Some(Rule::SizeZero)),
+        ((0, 0, 0), ("", GIB, 0, 0), Some(Rule::ZoneIdBad)),
+        ((0, 0, 0), ("z.1", GIB, 0, 0), Some(Rule::ZoneIdBad)),
+        ((0, 0, 0), (long, GIB, 0, 0), None),
+        ((0, 0, 0), (too_long, GIB, 0, 0), Some(Rule::ZoneIdBad)),
+        ((0, 0, 0), ("z0", GIB, 0, 0), Some(Rule::ZoneIdTwice)),
+        ((0, 0, 0), ("z1", GIB, 0, MIB), Some(Rule::SizeUnaligned)),
         (
             (0, 0, 0),
-            [one, (too_long, GIB, 0, 0)],
-            Some(Rule::ZoneIdBad),
-        ),
-        ((0, 0, 0), [one, ("z0", GIB, 0, 0)], Some(Rule::ZoneIdTwice)),
-        (
-            (0, 0, 0),
-            [one, ("z1", GIB, 0, MIB)],
-            Some(Rule::SizeUnaligned),
-        ),
-        (
-            (0, 0, 0),
-            [one, ("z1", 64 * GIB, 2 * MIB, 0)],
+            ("z1", 64 * GIB, 2 * MIB, 0),
             Some(Rule::ZoneTooLarge),
         ),
         (
             (0, 0, 0),
-            [one, ("z1", GIB, 0, 2 * MIB)],
+            ("z1", GIB, 0, 2 * MIB),
             Some(Rule::HotpluggedAbove),
         ),
-        (
-            (0, 0, 0),
-            [one, ("z1", GIB, 2 * MIB, 0)],
-            Some(Rule::WayForZones),
-        ),
+        ((0, 0, 0), ("z1", GIB, 2 * MIB, 0), Some(Rule::WayForZones)),
     ] {
-        let config = config_of(alloc, (1, 1), memory, Hotplug::Acpi, &zones, &[])?;
-        assert_eq!(rt; rule_of(alloc, config)?, rule, "{memory:?} {zones:?}");
+        let config = config_of(alloc, (1, 1), memory, Hotplug::Acpi, &[one, second], &[])?;
+        assert_eq!(rt; rule_of(alloc, config)?, rule, "{memory:?} {second:?}");
     }
     for (count, rule) in [(8, None), (9, Some(Rule::TooManyZones))] {
         let mut config = config_of(alloc, (1, 1), (0, 0, 0), Hotplug::VirtioMem, &[], &[])?;
