@@ -20,7 +20,7 @@ length-filter-le (true ∷ bs) = omega (arith, length-filter-le bs)
 length-filter-le (false ∷ bs) = omega (arith, length-filter-le bs)
 
 -- one truth value more at the end
-pub members_from-snoc : (k : ℕ) (bs : List Bool) (b : Bool) → members_from k (bs ++ b ∷ []) ≡ members_from k bs ++ cond b (k + length bs ∷ []) []
+pub members_from-snoc : (k : ℕ) (bs : List Bool) (b : Bool) → members_from k (bs ++ b ∷ []) ≡ members_from k bs ++ cond b ((k + length bs) ∷ []) []
 members_from-snoc k [] true = ap (λ n. n ∷ []) (omega arith)
 members_from-snoc k [] false = refl
 members_from-snoc k (true ∷ bs) b =

@@ -2,7 +2,7 @@
 ghost use Rattle.std.specs.Prelude.{◌≡◌, ℕ, ◌+◌, ◌≤◌, ◌<◌, ◌^◌, IfOk, length, filter};
 ghost use Rattle.chv_defs.specs.BlockSets.{AreRuns, count_of, first_within, has, no_blocks, ranges_of, with_span, without_span};
 
-use crate::runs::push_block;
+use crate::runs::runs_in;
 use chv_defs::{Row, Span};
 use std::alloc::{AllocError, Global};
 use std::marker::Model;
@@ -90,13 +90,7 @@ impl BlockSet {
     pub fn ranges(&self, alloc: Global) -> Result<Row<Span>, AllocError>
         ensures { IfOk result (λ runs. runs ≡ ranges_of self.now) }
     {
-        let mut runs = Vec::new(alloc);
-        for block in 0..self.blocks.len() {
-            if self.blocks[block] {
-                push_block(&mut runs, block as u32)?;
-            }
-        }
-        Ok(Row::new(runs))
+        Ok(Row::new(runs_in(alloc, self.blocks.as_slice())?))
     }
 }
 
