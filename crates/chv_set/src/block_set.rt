@@ -11,6 +11,7 @@ use std::marker::Model;
 /// whether it is in the set.
 #[derive(Drop)]
 pub struct BlockSet {
+    alloc: Global,
     blocks: Vec<bool>,
 }
 
@@ -30,6 +31,7 @@ impl BlockSet {
         ensures { IfOk result (λ set. set ≡ no_blocks size) }
     {
         Ok(BlockSet {
+            alloc,
             blocks: vec![in alloc; false; size as usize]?,
         })
     }
@@ -87,10 +89,10 @@ impl BlockSet {
     }
 
     /// The maximal runs of the set, ascending.
-    pub fn ranges(&self, alloc: Global) -> Result<Row<Span>, AllocError>
+    pub fn ranges(&self) -> Result<Row<Span>, AllocError>
         ensures { IfOk result (λ runs. runs ≡ ranges_of self.now) }
     {
-        Ok(Row::new(runs_in(alloc, self.blocks.as_slice())?))
+        Ok(Row::new(runs_in(self.alloc, self.blocks.as_slice())?))
     }
 }
 

@@ -20,7 +20,7 @@ fn sets(rt: HostRuntime) -> Result<(), Fail> {
     set.insert_range(span(128, 2));
     set.insert_range(span(500, 0));
     assert_eq!(rt; set.count(), 7);
-    let runs = set.ranges(rt.alloc())?;
+    let runs = set.ranges()?;
     let want = [span(0, 1), span(63, 3), span(128, 2), span(32_767, 1)];
     assert_eq!(rt; runs.as_slice(), want.as_slice());
     assert_eq!(rt; set.first_in(span(1, 200)), Some(63));
@@ -31,6 +31,6 @@ fn sets(rt: HostRuntime) -> Result<(), Fail> {
     assert!(rt; set.has(32_767) && !set.has(32_768));
     assert_eq!(rt; set.count(), 6);
     set.remove_range(span(0, 32_768));
-    assert!(rt; set.ranges(rt.alloc())?.is_empty());
+    assert!(rt; set.ranges()?.is_empty());
     Ok(())
 }
