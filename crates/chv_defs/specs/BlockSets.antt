@@ -1,6 +1,6 @@
 -- Sets of blocks: a set of numbers below its size is kept as one truth value for each of these numbers, which says
 -- whether the number is in the set.
-use Rattle.std.specs.Prelude.{◌≡◌, ℕ, ◌+◌, ◌<◌, ◌≤◌, ◌==◌, ◌&&◌, ◌||◌, Bool, false, not, nat_lt, nat_le, if◌then◌else◌, List, [], ◌∷◌, length, map}
+use Rattle.std.specs.Prelude.{◌≡◌, ℕ, ◌+◌, ◌<◌, ◌≤◌, ◌==◌, ◌&&◌, ◌||◌, Bool, false, not, nat_lt, nat_le, if◌then◌else◌, List, [], ◌∷◌, length, map, find, Option}
 use Rattle.std.specs.List.{slice_index_or, range_with_len, list_any}
 use Rattle.chv_defs.specs.declared.bank.Span.{Span}
 
@@ -40,6 +40,14 @@ members_from k (b ∷ bs) = if b then k ∷ members_from (k + 1) bs else members
 -- the numbers of the set, ascending
 abbrev pub members : Blocks → List ℕ
 members set = members_from 0 set
+
+-- how many numbers the set has
+abbrev pub count_of : Blocks → ℕ
+count_of set = length (members set)
+
+-- the lowest number of the set in a span
+abbrev pub first_within : Blocks → Span → Option ℕ
+first_within set span = find (is_within span) (members set)
 
 -- a number put before the runs of greater ones: it joins the first run where they touch
 abbrev pub onto_runs : ℕ → List Span → List Span

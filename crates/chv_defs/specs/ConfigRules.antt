@@ -1,7 +1,7 @@
 -- The rules that a machine's configuration keeps, the order in which they are asked, and the configuration that is
 -- kept: every disk with its id, and the zones in effect. The rules and the default names are this project's own; what
 -- they speak of is the `VmConfig` of the Cloud Hypervisor REST API v1.
-use Rattle.std.specs.Prelude.{ℕ, ◌+◌, ◌*◌, ◌%◌, ◌^◌, ◌==◌, ◌&&◌, ◌||◌, Bool, true, false, not, nat_lt, if◌then◌else◌, List, [], ◌∷◌, ◌++◌, length, map, filter, find, Option, None, Some, unwrap_or, Result, Ok, Err, codes}
+use Rattle.std.specs.Prelude.{◌≡◌, ℕ, ◌+◌, ◌*◌, ◌%◌, ◌^◌, ◌==◌, ◌&&◌, ◌||◌, Bool, true, false, not, nat_lt, if◌then◌else◌, List, [], ◌∷◌, ◌++◌, length, map, filter, find, Option, None, Some, unwrap_or, Result, Ok, Err, codes}
 use Rattle.std.specs.List.{list_any, filter_map, after_last, range_with_len, enumerate_from}
 use Rattle.std.specs.Option.{option_map_or}
 use Rattle.std.specs.Str.{bytes_eq}
@@ -277,11 +277,21 @@ unless_refused (Some rule) value = Err rule
 abbrev pub check_answer : List (List ℕ) → VmConfig → Result Checked Rule
 check_answer names config = unless_refused (verdict names config) (checked_of config)
 
+-- a checked configuration: the answer to some configuration, where disks of some names stand by
+pub record IsChecked (checked : Checked) : Type 0 where
+  pub names : List (List ℕ)
+  pub config : VmConfig
+  pub answer : check_answer names config ≡ Ok checked
+
 -- ---- devices, and one further disk
 
 -- the ids of the devices of a configuration that is kept
 abbrev pub device_ids : Checked → List (List ℕ)
 device_ids now = ids_of now.zones now.config.disks
+
+-- a checked configuration with a further disk behind the others
+abbrev pub with_disk : Checked → DiskConfig → Checked
+with_disk now disk = record now { config = record now.config { disks = now.config.disks ++ disk ∷ [] } }
 
 -- the memory devices with their places among the zones in effect: one for each zone that grows
 abbrev pub memory_devices : List ZoneConfig → List (DeviceKind × List ℕ)

@@ -4,8 +4,8 @@ use Rattle.std.specs.Prelude.{◌≡◌, ℕ, ◌+◌, ◌-◌, ◌*◌, ◌/◌
 use Rattle.std.specs.List.{range_with_len, filter_map, list_all}
 use Rattle.chv_defs.specs.declared.bank.PageAt.{PageAt}
 
--- the contents of a zone's memory: how many blocks it has, its pages that are not all zero, ascending, and for how many
--- further pages room is reserved
+-- the contents of a zone's memory: how many blocks it has, its pages that are not all zero, and for how many further
+-- pages room is reserved
 pub record Contents : Type 0 where
   pub blocks : ℕ
   pub pages : List PageAt
@@ -38,6 +38,12 @@ pub record Writes (old new : Contents) (block offset : ℕ) (bytes : List ℕ) :
   pub reserved : new.reserved ≡ old.reserved
   pub bytes_after : (b at : ℕ) → byte_at new b at ≡ (if b == block && is_inside offset (length bytes) at then slice_index bytes (at - offset) else byte_at old b at)
 
+-- after a page was filled: its bytes stand there, one reserved page is used, and every other byte is as before
+pub record Fills (old new : Contents) (block page : ℕ) (bytes : List ℕ) : Type 0 where
+  pub blocks : new.blocks ≡ old.blocks
+  pub reserved : new.reserved + 1 ≡ old.reserved
+  pub bytes_after : (b at : ℕ) → byte_at new b at ≡ (if b == block && is_inside (page * 4096) 4096 at then slice_index bytes (at - page * 4096) else byte_at old b at)
+
 -- after a block was cleared: its bytes are 0, and every other byte is as before
 pub record Clears (old new : Contents) (block : ℕ) : Type 0 where
   pub blocks : new.blocks ≡ old.blocks
@@ -61,3 +67,7 @@ page_numbered byte n =
 -- the pages of a number of blocks that are not all zero, ascending by block and page
 abbrev pub pages_of : ℕ → (ℕ → ℕ → ℕ) → List PageAt
 pages_of blocks byte = filter_map (page_numbered byte) (range_with_len 0 (blocks * 512))
+
+-- the pages that stand are exactly those that are not all zero, ascending
+abbrev pub AreExact : Contents → Type 0
+AreExact memory = memory.pages ≡ pages_of memory.blocks (byte_at memory)

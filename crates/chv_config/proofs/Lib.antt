@@ -1,0 +1,5 @@
+pub mod Components
+pub mod Firsts
+pub mod DefaultIds
+pub mod Twice
+pub mod Kept

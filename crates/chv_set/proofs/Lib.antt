@@ -1,0 +1,3 @@
+pub mod Members
+pub mod RunLists
+pub mod SetLists

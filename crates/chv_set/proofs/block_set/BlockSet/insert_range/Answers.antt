@@ -1,0 +1,10 @@
+use Rattle.std.proofs.Common.{sym, arith, ◌≡◌}
+use Rattle.chv_defs.specs.BlockSets.{with_span}
+use Rattle.chv_set.proofs.SetLists.{with_span-is}
+use Rattle.chv_set.proofs.block_set.BlockSet.insert_range.Goals as goal
+
+pub returns : goal.returns
+returns c =
+    let new : c.put_all.new.blocks.items ≡ with_span c.self.inside.blocks.items c.args.span =
+    with_span-is c.self.inside.blocks.items c.put_all.new.blocks.items c.args.span (record { len = c.put_all.ensures.len; inside = c.put_all.ensures.inside; below = c.put_all.ensures.below; above = c.put_all.ensures.above }) in
+    rw c.self.view_is at new
