@@ -1,0 +1,4 @@
+pub mod Head
+pub mod Parser
+pub mod Search
+pub mod Stage

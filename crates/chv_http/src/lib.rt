@@ -1,0 +1,15 @@
+//! HTTP for a control connection: requests cut from a stream in any pieces, and the bytes of replies.
+#![tactic(auto)]
+
+mod fields;
+mod front;
+mod head;
+mod parser;
+mod reply;
+mod stage;
+#[cfg(test)]
+mod tests;
+
+pub use chv_defs::{Request, Took};
+pub use parser::Parser;
+pub use reply::reply_bytes;
