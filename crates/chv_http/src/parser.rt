@@ -62,7 +62,7 @@ impl Parser {
         ensures took { IfOk result (λ took. Cuts self.old took self.new) }
         ensures err { OnErr result (self.new ≡ self.old) }
     {
-        let rest = &self.buffer[self.start..];
+        let rest = from(self.buffer.as_slice(), self.start);
         self.stage = self.stage.look_on(rest);
         match self.stage {
             Stage::Front { .. } => Ok(Took::NotYet),
@@ -70,22 +70,32 @@ impl Parser {
             Stage::Body(head) if rest.len() - head.len < head.body => Ok(Took::NotYet),
             Stage::Body(head) => {
                 let request = head.request(self.alloc, rest)?;
-                self.start += head.len + head.body;
+                self.start = release(&mut self.buffer, self.start + head.len + head.body);
                 self.stage = Stage::UNSEEN;
-                if self.start >= self.buffer.len() - self.start {
-                    remove_front(&mut self.buffer, self.start);
-                    self.start = 0;
-                }
                 Ok(Took::Request(request))
             }
         }
     }
 }
 
-/// Removes the first `count` bytes.
-fn remove_front(buffer: &mut Vec<u8>, count: usize)
-    requires { count ≤ vec_len buffer.old }
-    ensures { buffer.new.items ≡ drop count buffer.old.items }
+/// The bytes from `start` on.
+fn from(buffer: &[u8], start: usize) -> &[u8]
+    requires { start ≤ length buffer.now }
+    ensures { result.now ≡ drop start buffer.now }
 {
-    let _ = buffer.drain(..count);
+    &buffer[start..]
+}
+
+/// Removes the bytes before `start` where they are half of all at least, and answers where the bytes from `start` on
+/// stand then. So each byte is moved once at most for each byte that is removed.
+fn release(buffer: &mut Vec<u8>, start: usize) -> usize
+    requires { start ≤ vec_len buffer.old }
+    ensures kept { drop result buffer.new.items ≡ drop start buffer.old.items }
+    ensures within { result ≤ vec_len buffer.new }
+{
+    if start < buffer.len() - start {
+        return start;
+    }
+    let _ = buffer.drain(..start);
+    0
 }

@@ -8,7 +8,7 @@ unfolding content_length
 loop-field-preserved-then-not-is_named c =
     c.loop-field.invariant
     ∙ ap (λ r. option_to_list (option_copied c.loop-field.found) ++ r)
-      (values_same content_length _ _ _ _ c.loop-field-test.true (sym c.if-not-is_named.ensures))
+    (values_same content_length _ _ _ _ c.loop-field-test.true (sym c.if-not-is_named.ensures))
 
 pub returns-then-is_some : goal.returns-then-is_some
 unfolding content_length
