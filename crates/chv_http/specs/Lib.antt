@@ -1,4 +1,5 @@
 pub mod Head
+pub mod Laws
 pub mod Parser
 pub mod Reply
 pub mod Search

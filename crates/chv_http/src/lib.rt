@@ -4,6 +4,7 @@
 mod fields;
 mod front;
 mod head;
+mod laws;
 mod parser;
 mod reply;
 mod stage;
@@ -11,5 +12,6 @@ mod stage;
 mod tests;
 
 pub use chv_defs::{Request, Took};
+pub use laws::{any_pieces, decided_by_bytes};
 pub use parser::Parser;
 pub use reply::reply_bytes;
