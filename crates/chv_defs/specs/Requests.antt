@@ -80,7 +80,7 @@ request_of head body = record {
   last = head.minor == 0 || list_any asks_to_close (fields_of head);
 }
 
--- The whole front of the bytes is a head of at most 32 fields.
+-- The front of the bytes is n bytes long, at most 8,192, and it is as a whole this head, which has at most 32 fields.
 pub record HasHead (bytes : List ℕ) (n : ℕ) (head : RequestHead) : Type 0 where
   pub front : IsFront bytes n
   pub short : n ≤ 8192
@@ -102,7 +102,7 @@ pub record BeginsWith (bytes : List ℕ) (request : Request) (rest : List ℕ) :
   pub request_is : request ≡ request_of head (take len (drop n bytes))
   pub rest_is : rest ≡ drop (n + len) bytes
 
--- no whole front is there so far, or the body is not whole
+-- fewer than 8,192 bytes are there and no whole front, or a head is there and its body is not whole
 abbrev pub IsShort : List ℕ → Type 0
 IsShort bytes =
     (HasNoFront bytes × (length bytes < 8192))

@@ -1,5 +1,5 @@
 -- Bytes begin with one thing at most, and the bytes behind it do not change it.
-use Rattle.std.proofs.Common.{◌≡◌, ℕ, ◌+◌, ◌<◌, ◌≤◌, ◌⊎◌, List, [], ◌∷◌, ◌++◌, ◌≢◌, length, take, drop, Ok, Err, Result, refl, sym, ap, subst, ◌∙◌, inl, inr, arith, length-append, length-drop, append_assoc}
+use Rattle.std.proofs.Common.{◌≡◌, ℕ, ◌+◌, ◌≤◌, ◌⊎◌, List, [], ◌∷◌, ◌++◌, ◌≢◌, length, take, drop, Ok, Err, Result, refl, sym, ap, subst, ◌∙◌, inl, inr, arith, length-append, length-drop}
 use Rattle.std.proofs.lemmas.List.{take-append-le, drop-append-le}
 use Rattle.httparse.specs.Grammar.{RequestHead, ReadsRequest}
 use Rattle.httparse.proofs.GrammarLemmas.{request_unique}
@@ -8,7 +8,7 @@ use Rattle.chv_defs.specs.declared.rule.Rule.TheVariants.{BadHead}
 use Rattle.chv_defs.specs.declared.request.Request.{Request}
 use Rattle.chv_defs.specs.declared.request.Took.{Took}
 use Rattle.chv_defs.specs.declared.request.Took.TheVariants as took
-use Rattle.chv_defs.specs.HttpFront.{Closes, IsFront, HasNoFront}
+use Rattle.chv_defs.specs.HttpFront.{HasNoFront}
 use Rattle.chv_defs.specs.Requests.{fields_of, body_length, request_of, HasHead, Announces, BeginsWith, IsShort, HasBadHead, HasBadFields, Cuts, CutsInto}
 use Rattle.chv_http.specs.Laws.{BeginsWithNone}
 use Rattle.chv_http.proofs.FrontLemmas.{closes_within, closes_back, front_append, front_is_one}

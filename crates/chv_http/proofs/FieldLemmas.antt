@@ -1,5 +1,5 @@
 -- The values of a name, one field after another, and what they announce.
-use Rattle.std.proofs.Common.{◌≡◌, ◌≢◌, ℕ, ◌<◌, Bool, true, false, cond, List, [], ◌∷◌, ◌++◌, map, filter, ◌+◌, length, get_or, drop, Option, Some, None, is_some, option_to_list, option_copied, Bor, refl, sym, ap, ◌∙◌, add-one}
+use Rattle.std.proofs.Common.{◌≡◌, ℕ, ◌<◌, true, false, cond, List, ◌∷◌, ◌++◌, map, filter, ◌+◌, length, get_or, drop, Option, Some, None, is_some, option_to_list, option_copied, Bor, refl, sym, ap, ◌∙◌, add-one}
 use Rattle.std.proofs.Math.Seq.{drop-cons}
 use Rattle.httparse.specs.declared.spans.HeaderSpan.{HeaderSpan}
 use Rattle.httparse.specs.Spans.{header_bytes}

@@ -1,5 +1,5 @@
 -- What stands in a front stands at the same place of the bytes that begin with it.
-use Rattle.std.proofs.Common.{◌≡◌, ℕ, ◌+◌, ◌-◌, ◌≤◌, ◌||◌, ◌==◌, Bool, List, ◌++◌, length, take, drop, slice_range, codes, bytes_eq, refl, sym, ap, ◌∙◌, arith, length-drop}
+use Rattle.std.proofs.Common.{◌≡◌, ℕ, ◌-◌, ◌≤◌, ◌||◌, ◌==◌, Bool, List, ◌++◌, length, take, drop, slice_range, codes, bytes_eq, sym, ap, ◌∙◌, arith, length-drop}
 use Rattle.std.proofs.lemmas.List.{take-append-le, drop-append-le, take-append-drop}
 use Rattle.std.specs.List.{list_any}
 use Rattle.httparse.specs.Grammar.{RequestHead}

@@ -1,5 +1,5 @@
 -- The phrases of the statuses that this server sends are those of the crate `http`.
-use Rattle.std.proofs.Common.{◌≡◌, ℕ, ◌==◌, false, ◌⊎◌, List, [], ◌∷◌, ◌++◌, append_assoc, ◌∙◌, Option, Some, None, option_map, Bor, refl, sym, subst, inl, inr, arith}
+use Rattle.std.proofs.Common.{◌≡◌, ℕ, ◌==◌, false, List, [], ◌∷◌, ◌++◌, append_assoc, ◌∙◌, Option, Some, None, option_map, Bor, refl, sym, subst, inl, inr, arith}
 use Rattle.std.specs.Option.{unwrap_or}
 use Rattle.std.proofs.lemmas.Bool.Decides.{nat_tests}
 use Rattle.http.specs.StatusCode.{reason_phrase}

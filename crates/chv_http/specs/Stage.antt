@@ -1,5 +1,5 @@
 -- What a stage says of the bytes that were looked at.
-use Rattle.std.specs.Prelude.{◌≡◌, ℕ, ◌<◌, ◌≤◌, List, length, ⊤}
+use Rattle.std.specs.Prelude.{ℕ, ◌<◌, ◌≤◌, List, length, ⊤}
 use Rattle.chv_defs.specs.declared.request.Took.TheVariants as took
 use Rattle.chv_defs.specs.HttpFront.{Closes, HasNoFront}
 use Rattle.chv_defs.specs.Requests.{Cuts}

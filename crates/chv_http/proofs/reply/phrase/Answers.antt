@@ -1,4 +1,4 @@
-use Rattle.std.proofs.Common.{ap, sym, ◌∙◌}
+use Rattle.std.proofs.Common.{ap, ◌∙◌}
 use Rattle.http.specs.StatusCode.{reason_phrase}
 use Rattle.chv_http.proofs.ReplyLemmas.{no_phrase, same_phrase, text_of}
 use Rattle.chv_http.proofs.reply.phrase.Goals as goal

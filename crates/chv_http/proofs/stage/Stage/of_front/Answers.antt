@@ -1,4 +1,4 @@
-use Rattle.std.proofs.Common.{◌≡◌, inl, refl, arith}
+use Rattle.std.proofs.Common.{inl, refl, arith}
 use Rattle.chv_http.proofs.FrontLemmas.{closes_within}
 use Rattle.chv_http.proofs.stage.Stage.of_front.Goals as goal
 
