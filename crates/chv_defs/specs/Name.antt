@@ -1,4 +1,4 @@
--- Names of disks and snapshots: 1 to 64 bytes, each a letter, a digit, `.`, `_` or `-`, the first not `.`.
+-- Names of disks and snapshots, which are this project's own: 1 to 64 bytes, each a letter, a digit, `.`, `_` or `-`, the first not `.`.
 use Rattle.std.specs.Prelude.{ℕ, Bool, false, List, [], ◌∷◌, ◌==◌, ◌&&◌, ◌||◌, not, nat_le, length}
 use Rattle.std.specs.List.{list_all}
 
@@ -10,6 +10,7 @@ is_alphanumeric b = (nat_le 48 b && nat_le b 57) || (nat_le 65 b && nat_le b 90)
 abbrev pub is_name_byte : ℕ → Bool
 is_name_byte b = is_alphanumeric b || b == 46 || b == 95 || b == 45
 
+-- whether the first byte is `.`
 abbrev pub starts_with_dot : List ℕ → Bool
 starts_with_dot [] = false
 starts_with_dot (b ∷ bs) = b == 46

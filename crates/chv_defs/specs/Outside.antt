@@ -32,3 +32,21 @@ Puts None after bytes result = after ≡ None
 Puts (Some before) None bytes result = ⊥
 Puts (Some before) (Some after) bytes (Ok _) = after ≡ before ++ bytes
 Puts (Some before) (Some after) bytes (Err _) = (n : ℕ) × (n ≤ length bytes) × (after ≡ before ++ take n bytes)
+
+-- These bytes, and no others, were put in all.
+abbrev pub Gains : Option (List ℕ) → Option (List ℕ) → List ℕ → Type 0
+Gains None after bytes = after ≡ None
+Gains (Some before) None bytes = ⊥
+Gains (Some before) (Some after) bytes = after ≡ before ++ bytes
+
+-- A first part of these bytes, perhaps none, was put in all.
+abbrev pub GainsPart : Option (List ℕ) → Option (List ℕ) → List ℕ → Type 0
+GainsPart None after bytes = after ≡ None
+GainsPart (Some before) None bytes = ⊥
+GainsPart (Some before) (Some after) bytes = (n : ℕ) × (n ≤ length bytes) × (after ≡ before ++ take n bytes)
+
+-- These bytes, and no others, were taken in all.
+abbrev pub Loses : Option (List ℕ) → Option (List ℕ) → List ℕ → Type 0
+Loses None after bytes = after ≡ None
+Loses (Some before) None bytes = ⊥
+Loses (Some before) (Some after) bytes = before ≡ bytes ++ after

@@ -15,9 +15,11 @@ phrase status =
     if status == 404 then codes "Not Found" else (
     if status == 500 then codes "Internal Server Error" else []))))
 
+-- the version that a reply names
 unfoldable pub version_text : List ℕ
 version_text = codes "HTTP/1.1 "
 
+-- the names of the fields
 unfoldable pub close_text : List ℕ
 close_text = codes "Connection: close"
 

@@ -16,7 +16,8 @@ pub struct CpuConfig {
     pub max: u64,
 }
 
-/// The memory: `size`, `hotplug` and `hotplugged` are those of the zone `mem0`, and 0 where `zones` has zones.
+/// The memory. `size`, `hotplug` and `hotplugged` are those of the zone `mem0`, which is in effect where `zones` is
+/// empty; else they have to be 0.
 #[derive(Clone, PartialEq, Eq, Debug, Drop)]
 pub struct MemConfig {
     /// Bytes of boot memory.

@@ -19,7 +19,8 @@ pub enum Role {
     Queue,
 }
 
-/// A control call. Sessions make those of the API, `Settle` and `Bye`; runners and workers the others.
+/// A control call. Sessions make those of the API, `Settle` and `Bye`; runners and workers `Take`, `Hand`, `Reg` and
+/// `Mem`; any caller makes `Stop`.
 #[derive(Clone, PartialEq, Eq, Debug, Drop)]
 pub enum ControlCall {
     Ping,

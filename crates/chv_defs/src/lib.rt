@@ -31,7 +31,7 @@ pub use control::{
 };
 pub use exact::{Exact, copy_of};
 pub use info::{DeviceInfo, Info, ShownState, ZoneInfo};
-pub use machine::{Life, Machine};
+pub use machine::{Life, Machine, Region};
 pub use name::Name;
 pub use register::RegAccess;
 pub use request::{Request, Took};

@@ -12,6 +12,13 @@ pub struct Machine {
     pub stopped: bool,
 }
 
+/// A zone's region of guest addresses for memory that is plugged: of `size` 0 bytes where the zone does not grow.
+#[derive(Clone, Copy, PartialEq, Eq, Debug)]
+pub struct Region {
+    pub addr: u64,
+    pub size: u64,
+}
+
 /// How far a machine's life is.
 #[derive(Clone, Copy, PartialEq, Eq, Debug)]
 pub enum Life {

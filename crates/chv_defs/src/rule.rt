@@ -1,6 +1,9 @@
 // The names of refusals.
+ghost use Rattle.std.specs.Prelude.{◌≡◌};
+ghost use Rattle.chv_defs.specs.Rules.{rule_name, rule_status};
+ghost use Rattle.chv_defs.specs.Reasons.{reason_name};
 
-/// The rule by which a request or a control call is refused. docs/API.md has each rule's HTTP status.
+/// The rule by which a request or a control call is refused.
 #[derive(Clone, Copy, PartialEq, Eq, Debug)]
 pub enum Rule {
     /// The head of a request is no HTTP head.
@@ -98,4 +101,118 @@ pub enum Reason {
     BadTrace,
     /// A part of the format that is not read yet.
     NotBuilt,
+}
+
+impl Rule {
+    /// The name, as replies and traces give it.
+    pub fn name(self) -> &'static str
+        ensures { result.now ≡ rule_name self }
+    {
+        match self {
+            Rule::BadHead => "BadHead",
+            Rule::BadLength => "BadLength",
+            Rule::BodyTooLong => "BodyTooLong",
+            Rule::Coded => "Coded",
+            Rule::NoRoute => "NoRoute",
+            Rule::NotJson => "NotJson",
+            Rule::Missing => "Missing",
+            Rule::NotObject => "NotObject",
+            Rule::NotList => "NotList",
+            Rule::NotText => "NotText",
+            Rule::NotWhole => "NotWhole",
+            Rule::NotBool => "NotBool",
+            Rule::BadName => "BadName",
+            Rule::NotCreated => "NotCreated",
+            Rule::AlreadyCreated => "AlreadyCreated",
+            Rule::Held => "Held",
+            Rule::NotBooted => "NotBooted",
+            Rule::AlreadyBooted => "AlreadyBooted",
+            Rule::NotRunning => "NotRunning",
+            Rule::NotPaused => "NotPaused",
+            Rule::BootZero => "BootZero",
+            Rule::BootAboveMax => "BootAboveMax",
+            Rule::VcpusAboveLimit => "VcpusAboveLimit",
+            Rule::ZonesNeedSizeZero => "ZonesNeedSizeZero",
+            Rule::ZonesOwnHotplug => "ZonesOwnHotplug",
+            Rule::SizeZero => "SizeZero",
+            Rule::TooManyZones => "TooManyZones",
+            Rule::ZoneIdBad => "ZoneIdBad",
+            Rule::ZoneIdTwice => "ZoneIdTwice",
+            Rule::SizeUnaligned => "SizeUnaligned",
+            Rule::ZoneTooLarge => "ZoneTooLarge",
+            Rule::HotpluggedAbove => "HotpluggedAbove",
+            Rule::WayForZones => "WayForZones",
+            Rule::WayAcpi => "WayAcpi",
+            Rule::DiskUnknown => "DiskUnknown",
+            Rule::DiskTwice => "DiskTwice",
+            Rule::DeviceIdBad => "DeviceIdBad",
+            Rule::DeviceIdTwice => "DeviceIdTwice",
+            Rule::QueueShape => "QueueShape",
+            Rule::TooManyDevices => "TooManyDevices",
+            Rule::VcpuCount => "VcpuCount",
+            Rule::RemovalPending => "RemovalPending",
+            Rule::ByZone => "ByZone",
+            Rule::ZoneUnknown => "ZoneUnknown",
+            Rule::RamRange => "RamRange",
+            Rule::DeviceUnknown => "DeviceUnknown",
+            Rule::DeviceFixed => "DeviceFixed",
+            Rule::DeviceLeaving => "DeviceLeaving",
+            Rule::SlotsFull => "SlotsFull",
+            Rule::VaultFault => "VaultFault",
+            Rule::ImageMissing => "ImageMissing",
+            Rule::BadImage(_) => "BadImage",
+            Rule::NotBuilt => "NotBuilt",
+        }
+    }
+
+    /// The HTTP status of a reply that names the rule.
+    pub fn status(self) -> u16
+        ensures { result ≡ rule_status self }
+    {
+        match self {
+            Rule::NoRoute
+            | Rule::NotCreated
+            | Rule::ZoneUnknown
+            | Rule::DeviceUnknown
+            | Rule::ImageMissing => 404,
+            Rule::AlreadyCreated
+            | Rule::Held
+            | Rule::NotBooted
+            | Rule::AlreadyBooted
+            | Rule::NotRunning
+            | Rule::NotPaused
+            | Rule::RemovalPending
+            | Rule::DeviceLeaving
+            | Rule::SlotsFull
+            | Rule::VaultFault
+            | Rule::NotBuilt => 500,
+            _ => 400,
+        }
+    }
+}
+
+impl Reason {
+    /// The name, as it is printed.
+    pub fn name(self) -> &'static str
+        ensures { result.now ≡ reason_name self }
+    {
+        match self {
+            Reason::UnknownWord => "UnknownWord",
+            Reason::FieldCount => "FieldCount",
+            Reason::BadRegister => "BadRegister",
+            Reason::BadWidth => "BadWidth",
+            Reason::BadNumber => "BadNumber",
+            Reason::BadHex => "BadHex",
+            Reason::BadName => "BadName",
+            Reason::UnknownLabel => "UnknownLabel",
+            Reason::LabelTwice => "LabelTwice",
+            Reason::Unended => "Unended",
+            Reason::OutOfOrder => "OutOfOrder",
+            Reason::TooMany => "TooMany",
+            Reason::NotHere => "NotHere",
+            Reason::Unclosed => "Unclosed",
+            Reason::BadTrace => "BadTrace",
+            Reason::NotBuilt => "NotBuilt",
+        }
+    }
 }

@@ -1,0 +1,23 @@
+-- The control state before anything happened, and what holds of every control state.
+use Rattle.std.specs.Prelude.{◌≡◌, ◌≤◌, ◌<◌, ◌↔◌, ℕ, List, [], ◌∷◌, Option, Some, None, false}
+use Rattle.chv_defs.specs.declared.machine.Machine.{Machine}
+use Rattle.chv_defs.specs.declared.machine.Life.TheVariants as life
+
+-- The empty state: there is no machine, and no session has ended.
+abbrev pub empty_machine : Machine
+empty_machine = record { life = life.None; config = None; ended = []; stopped = false }
+
+-- The callers 1 to 16 are sessions.
+abbrev pub IsSession : ℕ → Type 0
+IsSession caller = (1 ≤ caller) × (caller ≤ 16)
+
+-- These are numbers of sessions above one, ascending.
+abbrev pub AreSessionsAbove : ℕ → List ℕ → Type 0
+AreSessionsAbove low [] = Unit {0}
+AreSessionsAbove low (caller ∷ callers) = (low < caller) × (caller ≤ 16) × AreSessionsAbove caller callers
+
+-- A control state is well formed where it has a configuration exactly where there is a machine, and the ended ones are
+-- sessions, ascending.
+pub record IsWellFormed (m : Machine) : Type 0 where
+  pub life_and_config : (m.life ≡ life.None) ↔ (m.config ≡ None)
+  pub sessions : AreSessionsAbove 0 m.ended

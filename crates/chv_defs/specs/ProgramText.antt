@@ -1,0 +1,22 @@
+-- The words of the program's command line, and the lines that it writes where it does nothing else. Both are this project's
+-- own.
+use Rattle.std.specs.Prelude.{ℕ, List, [], ◌∷◌, ◌++◌, codes}
+use Rattle.chv_defs.specs.Numbers.{dec_text}
+use Rattle.chv_defs.specs.Reasons.{reason_name}
+use Rattle.chv_defs.specs.declared.rule.Reason.{Reason}
+
+-- the word that plays a scenario on one thread
+abbrev pub play_words : List (List ℕ)
+play_words = codes "play" ∷ []
+
+-- the line for words that are none of the program's
+unfoldable pub usage_line : List ℕ
+usage_line = codes "chv: usage\n"
+
+-- the line for an input that cannot be read
+unfoldable pub read_fault_line : List ℕ
+read_fault_line = codes "chv: read fault\n"
+
+-- the line for a scenario that is refused: the first line that fails, and why
+abbrev pub scene_fault_line : ℕ → Reason → List ℕ
+scene_fault_line line reason = codes "chv: line " ++ dec_text line ++ codes ": " ++ reason_name reason ++ codes "\n"

@@ -1,0 +1,3 @@
+pub mod MemSource
+pub mod MemSink
+pub mod Wrapped

@@ -1,0 +1,58 @@
+// The texts that are written.
+ghost use Rattle.std.specs.Prelude.{◌≡◌, IfOk, false};
+ghost use Rattle.serde_json.specs.View.{view};
+ghost use Rattle.serde_json.specs.Written.{compact_text, has_float};
+ghost use Rattle.chv_defs.specs.JsonTexts as texts;
+
+use crate::info_json::counters;
+use crate::to_json::ToJson;
+use chv_defs::{CountOf, DeviceInfo, DiskConfig, Info, Row, Text, VmConfig};
+use serde_json::Value;
+use std::alloc::{AllocError, Global};
+
+fn compact(alloc: Global, value: Value) -> Result<Text, AllocError>
+    requires { has_float (view value) ≡ false }
+    ensures { IfOk result (λ t. t ≡ compact_text (view value)) }
+{
+    Ok(Text::new(value.to_string(alloc)?))
+}
+
+/// The text of a configuration, as `vm.create` takes it and `vm.info` shows it.
+#[tactic(auto, using(crate::proofs::Floatless::floatless_config), unfolding(chv_defs::specs::JsonTexts::config_text))]
+pub fn config_text(alloc: Global, config: &VmConfig) -> Result<Text, AllocError>
+    ensures { IfOk result (λ t. t ≡ texts.config_text config.now) }
+{
+    compact(alloc, config.to_json(alloc)?)
+}
+
+/// The text of a disk, as `vm.add-disk` takes it.
+#[tactic(auto, using(crate::proofs::Floatless::floatless_disk), unfolding(chv_defs::specs::JsonTexts::disk_text))]
+pub fn disk_text(alloc: Global, disk: &DiskConfig) -> Result<Text, AllocError>
+    ensures { IfOk result (λ t. t ≡ texts.disk_text disk.now) }
+{
+    compact(alloc, disk.to_json(alloc)?)
+}
+
+/// The text of a device and its PCI address, which answers a disk that was added to a running machine.
+#[tactic(auto, unfolding(chv_defs::specs::JsonTexts::device_text))]
+pub fn device_text(alloc: Global, device: &DeviceInfo) -> Result<Text, AllocError>
+    ensures { IfOk result (λ t. t ≡ texts.device_text device.now) }
+{
+    compact(alloc, device.to_json(alloc)?)
+}
+
+/// The text that `vm.info` shows.
+#[tactic(auto, using(crate::proofs::Floatless::floatless_info), unfolding(chv_defs::specs::JsonTexts::info_text))]
+pub fn info_text(alloc: Global, info: &Info) -> Result<Text, AllocError>
+    ensures { IfOk result (λ t. t ≡ texts.info_text info.now) }
+{
+    compact(alloc, info.to_json(alloc)?)
+}
+
+/// The text that `vm.counters` shows: of each disk what it has done. Ids are distinct.
+#[tactic(auto, using(crate::proofs::Floatless::floatless_counters), unfolding(chv_defs::specs::JsonTexts::counters_text))]
+pub fn counters_text(alloc: Global, counts: &Row<CountOf>) -> Result<Text, AllocError>
+    ensures { IfOk result (λ t. t ≡ texts.counters_text counts.now) }
+{
+    compact(alloc, counters(alloc, counts.as_slice())?)
+}
