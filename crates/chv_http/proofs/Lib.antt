@@ -5,3 +5,7 @@ pub mod HeadLemmas
 pub mod CutLemmas
 pub mod StageLemmas
 pub mod ReplyLemmas
+pub mod LineLemmas
+pub mod ReadingLemmas
+pub mod FrontEndLemmas
+pub mod CutFunctionLemmas

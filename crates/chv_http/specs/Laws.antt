@@ -4,6 +4,7 @@ use Rattle.chv_defs.specs.declared.request.Request.{Request}
 use Rattle.chv_defs.specs.declared.request.Took.{Took}
 use Rattle.chv_defs.specs.declared.request.Took.TheVariants as took
 use Rattle.chv_defs.specs.Requests.{Cuts, CutsInto, BeginsWith}
+use Rattle.chv_defs.specs.StreamCut.{cut}
 
 -- the bytes begin with no whole request
 abbrev pub BeginsWithNone : List ℕ → Type 0
@@ -30,3 +31,12 @@ abbrev pub CutsOneWay : Type 0
 CutsOneWay =
     (stream : List ℕ) (a b : List Request) (x y : List ℕ) → CutsInto stream a x → CutsInto stream b y
     → BeginsWithNone x → BeginsWithNone y → (a ≡ b) × (x ≡ y)
+
+-- The function `cut` gives what the bytes begin with, and what is left behind it.
+abbrev pub CutGivesOutcome : Type 0
+CutGivesOutcome = (bytes : List ℕ) → Cuts bytes (cut bytes).0 (cut bytes).1
+
+-- It gives nothing else.
+abbrev pub CutGivesAll : Type 0
+CutGivesAll =
+    (bytes : List ℕ) (what : Took) (rest : List ℕ) → Cuts bytes what rest → (what ≡ (cut bytes).0) × (rest ≡ (cut bytes).1)

@@ -12,6 +12,6 @@ mod stage;
 mod tests;
 
 pub use chv_defs::{Request, Took};
-pub use laws::{any_pieces, decided_by_bytes};
+pub use laws::{any_pieces, cut_computes, decided_by_bytes};
 pub use parser::Parser;
 pub use reply::reply_bytes;
