@@ -27,4 +27,5 @@ pub mod SceneText
 pub mod Schedule
 pub mod ScriptText
 pub mod Shown
+pub mod StreamCut
 pub mod TraceText

@@ -49,10 +49,14 @@ length_of_digits digits =
     if nat_lt 0 (length digits) && list_all is_ascii_digit digits && nat_lt (digits_value 10 digits) (2 ^ 64)
     then Some (digits_value 10 digits) else None
 
--- the length that the `Content-Length` fields announce: 0 where there is none, and no length where there are two
-abbrev pub announced_length : List Field → Option ℕ
+-- the values of the fields of this name, in order
+abbrev pub values : List ℕ → List Field → List (List ℕ)
+values name fields = map (λ field. field.1) (filter (is_named name) fields)
+
+-- the length that the values of `Content-Length` announce: 0 where there is none, and no length where there are two
+abbrev pub announced_length : List (List ℕ) → Option ℕ
 announced_length [] = Some 0
-announced_length (field ∷ []) = length_of_digits field.1
+announced_length (digits ∷ []) = length_of_digits digits
 announced_length (first ∷ second ∷ more) = None
 
 -- a body has at most 65,536 bytes
@@ -64,7 +68,7 @@ checked_length (Some n) = if nat_le n 65536 then Ok n else Err BodyTooLong
 abbrev pub body_length : List Field → Result ℕ Rule
 body_length fields =
     if list_any (is_named transfer_encoding) fields then Err Coded
-    else checked_length (announced_length (filter (is_named content_length) fields))
+    else checked_length (announced_length (values content_length fields))
 
 -- the request of a head and a body. It is the last one where its version is 1.0, or where it asks to close
 abbrev pub request_of : RequestHead → List ℕ → Request
@@ -76,7 +80,7 @@ request_of head body = record {
   last = head.minor == 0 || list_any asks_to_close (fields_of head);
 }
 
--- The whole front of the bytes is a head of at most 32 fields.
+-- The front of the bytes is n bytes long, at most 8,192, and it is as a whole this head, which has at most 32 fields.
 pub record HasHead (bytes : List ℕ) (n : ℕ) (head : RequestHead) : Type 0 where
   pub front : IsFront bytes n
   pub short : n ≤ 8192
@@ -98,7 +102,7 @@ pub record BeginsWith (bytes : List ℕ) (request : Request) (rest : List ℕ) :
   pub request_is : request ≡ request_of head (take len (drop n bytes))
   pub rest_is : rest ≡ drop (n + len) bytes
 
--- no whole front is there so far, or the body is not whole
+-- fewer than 8,192 bytes are there and no whole front, or a head is there and its body is not whole
 abbrev pub IsShort : List ℕ → Type 0
 IsShort bytes =
     (HasNoFront bytes × (length bytes < 8192))

@@ -1,0 +1,11 @@
+pub mod FrontLemmas
+pub mod DigitLemmas
+pub mod FieldLemmas
+pub mod HeadLemmas
+pub mod CutLemmas
+pub mod StageLemmas
+pub mod ReplyLemmas
+pub mod LineLemmas
+pub mod ReadingLemmas
+pub mod FrontEndLemmas
+pub mod CutFunctionLemmas
