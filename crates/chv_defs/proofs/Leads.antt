@@ -1,5 +1,5 @@
 -- Control histories grow by one step at their end.
-use Rattle.std.proofs.Common.{◌≡◌, List, [], ◌∷◌, ◌++◌, refl, subst, sym}
+use Rattle.std.proofs.Common.{List, [], ◌∷◌, ◌++◌, refl, subst}
 use Rattle.chv_defs.specs.declared.machine.Machine.{Machine}
 use Rattle.chv_defs.specs.declared.control.ControlEntry.{ControlEntry}
 use Rattle.chv_defs.specs.ControlStep.{Step}

@@ -1,6 +1,6 @@
 -- The calls of the API on the control machine: by which rule a call is refused, what it is answered, and what it
 -- leaves. Built so far are Ping, Info, Create of the default configuration, and Bye.
-use Rattle.std.specs.Prelude.{◌≡◌, ◌<◌, ℕ, Bool, not, List, [], ◌∷◌, ◌++◌, Option, Some, None, is_some, if◌then◌else◌, nat_lt, ◌==◌}
+use Rattle.std.specs.Prelude.{◌≡◌, ℕ, Bool, not, List, [], ◌∷◌, Option, Some, None, is_some, if◌then◌else◌, nat_lt, ◌==◌}
 use Rattle.chv_defs.specs.declared.machine.Machine.{Machine}
 use Rattle.chv_defs.specs.declared.machine.Life.TheVariants as life
 use Rattle.chv_defs.specs.declared.rule.Rule.{Rule}

@@ -1,6 +1,6 @@
 -- The routes of the API (Cloud Hypervisor REST API v1; the bodies of `vmm.ping` and of a refusal are this project's own):
 -- which control call a request makes, and which reply the answer to it is. Built so far are `vmm.ping`, `vm.info`, and `vm.create` with the body `{}`.
-use Rattle.std.specs.Prelude.{ℕ, ◌&&◌, false, List, [], ◌∷◌, ◌++◌, codes, Option, None, Some, if◌then◌else◌}
+use Rattle.std.specs.Prelude.{ℕ, ◌&&◌, false, List, ◌++◌, codes, Option, None, Some, if◌then◌else◌}
 use Rattle.std.specs.Str.{bytes_eq}
 use Rattle.chv_defs.specs.DefaultConfig.{default_config}
 use Rattle.chv_defs.specs.JsonTexts.{info_text, counters_text, device_text}

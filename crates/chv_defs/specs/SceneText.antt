@@ -1,6 +1,6 @@
 -- How a scenario is spelled, in a format of this project's own, and which bytes a session's requests stand for (HTTP/1.1
 -- requests: RFC 9112, 3 and 6).
-use Rattle.std.specs.Prelude.{ℕ, List, [], ◌∷◌, ◌++◌, length, flat_map, codes, Option, None, Some}
+use Rattle.std.specs.Prelude.{ℕ, List, [], ◌++◌, length, flat_map, codes, Option, None, Some}
 use Rattle.chv_defs.specs.Numbers.{dec_text, pairs}
 use Rattle.chv_defs.specs.ScriptText.{field, script_text}
 use Rattle.chv_defs.specs.declared.scene.MadeDisk.{MadeDisk}

@@ -1,5 +1,5 @@
 -- How a script is spelled, in a format of this project's own: one instruction a line, fields separated by one space.
-use Rattle.std.specs.Prelude.{ℕ, List, [], ◌∷◌, ◌++◌, flat_map, codes}
+use Rattle.std.specs.Prelude.{ℕ, List, ◌∷◌, ◌++◌, flat_map, codes}
 use Rattle.chv_defs.specs.Numbers.{dec_text, hex_text, pairs}
 use Rattle.chv_defs.specs.declared.scene.Line.{Line}
 use Rattle.chv_defs.specs.declared.scene.Line.TheVariants as line

@@ -1,6 +1,6 @@
 -- What `vm.info` shows of a control state. Its shape is this project's own; the configuration in it is the `VmConfig` of
 -- the Cloud Hypervisor REST API v1.
-use Rattle.std.specs.Prelude.{ℕ, List, [], map, sum_by, unwrap_or}
+use Rattle.std.specs.Prelude.{[], map, sum_by, unwrap_or}
 use Rattle.chv_defs.specs.declared.config.ZoneConfig.{ZoneConfig}
 use Rattle.chv_defs.specs.declared.config.Checked.{Checked}
 use Rattle.chv_defs.specs.declared.machine.Machine.{Machine}

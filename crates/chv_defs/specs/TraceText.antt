@@ -1,5 +1,5 @@
 -- The text of a trace, in a format of this project's own: what is printed of everything that happened in a run.
-use Rattle.std.specs.Prelude.{ℕ, ◌+◌, Bool, true, false, List, [], ◌∷◌, ◌++◌, length, map, sum_by, flat_map, codes, Option, None, Some}
+use Rattle.std.specs.Prelude.{ℕ, ◌+◌, Bool, true, false, List, [], ◌∷◌, ◌++◌, length, sum_by, flat_map, codes, Option, None, Some}
 use Rattle.serde_json.specs.Data.{string}
 use Rattle.serde_json.specs.Written.{compact_text}
 use Rattle.chv_defs.specs.Numbers.{dec_text, hex_text, pairs}

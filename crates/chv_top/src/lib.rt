@@ -15,3 +15,6 @@ mod top;
 pub use laws::schedule_is_legal;
 pub use status::{Ended, Status};
 pub use top::{play_program, run_program};
+
+#[cfg(test)]
+mod tests;

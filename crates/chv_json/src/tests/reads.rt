@@ -203,10 +203,10 @@ fn reads_the_other_bodies(rt: HostRuntime) -> Result<(), Fail> {
         Err(Rule::Missing)
     );
     assert_eq!(rt; zone_of(alloc, b"{\"id\":7}")?, Err(Rule::NotText));
-    let url = Text::of(alloc, "file:///tmp/a")?;
+    let url = Text::of(alloc, "file:///vault/a")?;
     let key = "destination_url";
     assert_eq!(rt;
-        text_of(alloc, b"{\"destination_url\":\"file:///tmp/a\"}", key)?,
+        text_of(alloc, b"{\"destination_url\":\"file:///vault/a\"}", key)?,
         Ok(url)
     );
     assert_eq!(rt;

@@ -16,6 +16,7 @@ pub returns : goal.returns
 returns c requests is =
     let found : (rs : List Request) × (requests ≡ map asked_of rs) = requests_of requests is.built in
     let same : played found.0 ≡ schedule requests = scheduled found.0 ∙ ap schedule (sym found.1) in
-    let one : (machine : Machine) × IsLegal (played found.0).control machine = legal found.0 in
-    ((one.0, subst (λ (t : Trace). IsLegal t.control one.0) same one.1),
-     ap (λ (t : Trace). calls_by 1 t.control) (sym same) ∙ calls_played found.0 ∙ ap (λ calls. calls ++ call.Bye ∷ []) (sym (calls_asked found.0) ∙ ap calls_of (sym found.1)))
+    let one : (machine : Machine) × IsLegal (played found.0).control machine = legal found.0 in (
+      (one.0, subst (λ (t : Trace). IsLegal t.control one.0) same one.1),
+      ap (λ (t : Trace). calls_by 1 t.control) (sym same) ∙ calls_played found.0 ∙ ap (λ calls. calls ++ call.Bye ∷ []) (sym (calls_asked found.0) ∙ ap calls_of (sym found.1)),
+    )
