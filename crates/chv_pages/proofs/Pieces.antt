@@ -3,7 +3,7 @@ use Rattle.std.proofs.Common.{◌≡◌, ℕ, ◌+◌, ◌-◌, ◌*◌, ◌/◌
 use Rattle.std.specs.Prelude.{cond, ◌==◌, ◌&&◌, nat_lt, nat_le, slice_index, slice_range}
 use Rattle.std.proofs.lemmas.Bool.{false_from_ne_true, cases_lt}
 use Rattle.std.proofs.lemmas.Bool.Decides.{nat_tests}
-use Rattle.std.proofs.lemmas.List.{get_or-drop, get_or-take}
+use Rattle.std.proofs.lemmas.List.{get_or-drop, get_or-take, length-take, length-drop}
 use Rattle.chv_defs.specs.PageContents.{is_inside}
 use Rattle.chv_pages.specs.Copies.{CopiedAt}
 use Rattle.chv_pages.specs.declared.held.Held.{Held}
@@ -58,7 +58,7 @@ piece-bytes n block offset b at old new from e small page copied there =
     elim (cases_lt at offset) [
       | inl below ↦ copied.before (at % 4096) (omega (arith, e, parts.0, parts.1, small, below)) ∙ sym (result false (outside_below offset (length from) at below))
       | inr from_ ↦ (elim (cases_lt at (offset + length from)) [
-        | inl inside ↦ ap (slice_index new) place ∙ copied.inside (at - offset) (omega (arith, from_, inside)) ∙ sym (result true (inside_true offset (length from) at from_ inside))
+        | inl inside ↦ ap (slice_index new) (place from_) ∙ copied.inside (at - offset) (omega (arith, from_, inside)) ∙ sym (result true (inside_true offset (length from) at from_ inside))
         | inr behind ↦ copied.behind (at % 4096) (omega (arith, e, parts.0, parts.1, small, behind, page)) ∙ sym (result false (outside_above offset (length from) at behind))
       ])
     ]
@@ -69,8 +69,8 @@ piece-bytes n block offset b at old new from e small page copied there =
     same : b ≡ block
     same = omega (arith, e, parts.0, small)
 
-    place : at % 4096 ≡ offset % 4096 + (at - offset)
-    place = ?
+    place : offset ≤ at → at % 4096 ≡ offset % 4096 + (at - offset)
+    place low = omega (arith, e, parts.0, parts.1, small)
 
     result : (t : Bool) → is_inside offset (length from) at ≡ t → cond (b == block && is_inside offset (length from) at) (slice_index from (at - offset)) (slice_index old (at % 4096)) ≡ cond t (slice_index from (at - offset)) (slice_index old (at % 4096))
     result t h = ap (λ x. cond x (slice_index from (at - offset)) (slice_index old (at % 4096))) (and_true_left (b == block) (is_inside offset (length from) at) (eqb_same b block same) ∙ h)
@@ -106,11 +106,29 @@ piece-address block offset done len k page small low high =
     address_true (block * 512 + (offset + done) / 4096) block (offset + k) (omega arith) (omega arith)
 
 piece-place : (offset done len k : ℕ) → (offset + done) % 4096 + len ≤ 4096 → done ≤ k → k < done + len → (offset + k) % 4096 ≡ (offset + done) % 4096 + (k - done)
-piece-place offset done len k page low high = ?
+piece-place offset done len k page low high = omega arith
 
-pub reads-piece : (held : List Held) (place block offset done len k : ℕ) (d : Held) (into : List ℕ) → IsAt held place (block * 512 + (offset + done) / 4096) → (offset + done) % 4096 + len ≤ 4096 → offset + done + len ≤ 2097152 → done ≤ k → k < done + len →
-    slice_index into (done + (k - done)) ≡ slice_index (slice_range (get_or held place d).page ((offset + done) % 4096) ((offset + done) % 4096 + len)) (k - done) → slice_index into k ≡ held_at held block (offset + k)
-reads-piece held place block offset done len k d into at page small low high copied = ?
+pub reads-piece : (held : List Held) (place block offset done len k : ℕ) (d : Held) (page before into : List ℕ) → IsAt held place (block * 512 + (offset + done) / 4096) → page ≡ (get_or held place d).page → length page ≡ 4096 → (offset + done) % 4096 + len ≤ 4096 → offset + done + len ≤ 2097152 → done ≤ k → k < done + len →
+    CopiedAt before into done (slice_range page ((offset + done) % 4096) ((offset + done) % 4096 + len)) → slice_index into k ≡ held_at held block (offset + k)
+reads-piece held place block offset done len k d page before into at e full fits small low high copied =
+    let start = (offset + done) % 4096 in
+    let width : start + len - start ≡ len = omega arith in
+    let count : length (slice_range page start (start + len)) ≡ len = simp (length-take, length-drop) (omega (arith, full, fits)) in
+    let where_ : k ≡ done + (k - done) = omega arith in
+    let near : k - done < start + len - start = omega arith in
+    ap (slice_index into) where_
+    ∙ copied.inside (k - done) (omega (arith, count))
+    ∙ get_or-take (start + len - start) (drop start page) (k - done) 0 near
+    ∙ get_or-drop start page (k - done) 0
+    ∙ ap (λ xs. slice_index xs (start + (k - done))) e
+    ∙ sym (ap (slice_index (get_or held place d).page) (piece-place offset done len k fits low high))
+    ∙ sym (at-read held place (block * 512 + (offset + done) / 4096) block (offset + k) d at (piece-address block offset done len k fits small low high))
 
 pub reads-none : (held : List Held) (block offset done len k : ℕ) → has_number held (block * 512 + (offset + done) / 4096) ≡ false → (offset + done) % 4096 + len ≤ 4096 → offset + done + len ≤ 2097152 → done ≤ k → k < done + len → held_at held block (offset + k) ≡ 0
 reads-none held block offset done len k none page small low high = none-read held (block * 512 + (offset + done) / 4096) block (offset + k) none (piece-address block offset done len k page small low high)
+
+-- the number of the page at a place
+pub at-number : (held : List Held) (place number : ℕ) (d : Held) → IsAt held place number → (get_or held place d).number ≡ number
+at-number [] place number d h = absurd h
+at-number (x ∷ xs) zero number d h = h
+at-number (x ∷ xs) (suc place) number d h = at-number xs place number d h.1

@@ -29,11 +29,11 @@ place-is (h ∷ hs) number = by (h.number == number) refl (place-is hs number)
           none = λ large. ap (λ b. b || has_number hs number) e ∙ r.none (omega arith);
         })
 
-pub position-is : (held : List Held) (number : ℕ) → MatchOption (position (λ h. h.number == number) held) (has_number held number ≡ false) (λ place. IsAt held place number)
+pub position-is : (held : List Held) (number : ℕ) → MatchOption (position (λ h. h.number == number) held) (has_number held number ≡ false) (λ place. (place < length held) × IsAt held place number)
 position-is held number = by (nat_lt (position_or_len (λ h. h.number == number) held) (length held)) refl
   where
-    by : (b : Bool) → nat_lt (position_or_len (λ h. h.number == number) held) (length held) ≡ b → MatchOption (cond b (Some (position_or_len (λ h. h.number == number) held)) None) (has_number held number ≡ false) (λ place. IsAt held place number)
-    by true e = (place-is held number).found (grind (arith, nat_tests))
+    by : (b : Bool) → nat_lt (position_or_len (λ h. h.number == number) held) (length held) ≡ b → MatchOption (cond b (Some (position_or_len (λ h. h.number == number) held)) None) (has_number held number ≡ false) (λ place. (place < length held) × IsAt held place number)
+    by true e = let small : position_or_len (λ h. h.number == number) held < length held = grind (arith, nat_tests) in (small, (place-is held number).found small)
     by false e = (place-is held number).none (grind (arith, nat_tests))
 
 -- ---- what stands at its place

@@ -8,7 +8,7 @@ use Rattle.std.specs.Option.{option_map_or}
 use Rattle.std.proofs.lemmas.Bool.Decides.{nat_tests}
 use Rattle.chv_defs.specs.PageContents.{is_blank}
 use Rattle.chv_pages.specs.declared.held.Held.{Held}
-use Rattle.chv_pages.specs.HeldPages.{has_number, held_at, is_address, is_there, put, shown, visible, AreHeld}
+use Rattle.chv_pages.specs.HeldPages.{has_number, held_at, is_address, is_there, put, shown, visible, AreHeld, MakesRoom}
 
 -- put where a page with the number stands
 pub put-set : (held : List Held) (number : ℕ) (page : List ℕ) → is_there held (prefix_len (λ h. nat_lt h.number number) held) number ≡ true → set held (prefix_len (λ h. nat_lt h.number number) held) (record { number = number; page = page }) ≡ put held number page
@@ -143,3 +143,18 @@ put-read (h ∷ hs) number page b o = by (nat_lt h.number number) (h.number == n
         rw (v, apart) refl
     by false false p q t true s v r = rw v refl
     by false false p q t false s v r = rw (v, s) refl
+
+-- a page of zeros that was put where none was
+pub makes-room : (held : List Held) (number : ℕ) (page : List ℕ) → is_blank page ≡ true → has_number held number ≡ false → MakesRoom held (put held number page)
+makes-room held number page blank none =
+    record {
+      same = put-visible held number page blank none;
+      keeps = λ n h. put-has held number page n ∙ right (number == n) (has_number held n) h;
+    }
+  where
+    right : (a b : Bool) → b ≡ true → (a || b) ≡ true
+    right true b h = refl
+    right false b h = h
+
+pub put-has-it : (held : List Held) (number : ℕ) (page : List ℕ) → has_number (put held number page) number ≡ true
+put-has-it held number page = put-has held number page number ∙ ap (λ b. b || has_number held number) (let e : (number == number) ≡ true = grind (arith, nat_tests) in e)

@@ -20,7 +20,7 @@ pub fn number_of(block: u32, offset: usize) -> u64
 
 /// The place of the page with a number.
 pub fn find(held: &[Held], number: u64) -> Option<usize>
-    ensures { MatchOption result (has_number held.now number ≡ false) (λ place. IsAt held.now place number) }
+    ensures { MatchOption result (has_number held.now number ≡ false) (λ place. (place < length held.now) × IsAt held.now place number) }
 {
     position_of(held, number)
 }

@@ -1,4 +1,3 @@
-use Rattle.std.proofs.Common.{arith}
 use Rattle.chv_pages.proofs.Places.{position-is}
 use Rattle.chv_pages.proofs.reads.find.Goals as goal
 
