@@ -2,3 +2,4 @@ pub mod Bytes
 pub mod Pieces
 pub mod Places
 pub mod Puts
+pub mod Writes

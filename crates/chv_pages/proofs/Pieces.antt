@@ -19,13 +19,13 @@ address_true n b o h g = grind (arith, nat_tests)
 inside_parts : (offset len at : ℕ) → is_inside offset len at ≡ true → (offset ≤ at) × (at < offset + len)
 inside_parts offset len at h = (grind (arith, nat_tests), grind (arith, nat_tests))
 
-inside_true : (offset len at : ℕ) → offset ≤ at → at < offset + len → is_inside offset len at ≡ true
+pub inside_true : (offset len at : ℕ) → offset ≤ at → at < offset + len → is_inside offset len at ≡ true
 inside_true offset len at h g = grind (arith, nat_tests)
 
-outside_below : (offset len at : ℕ) → at < offset → is_inside offset len at ≡ false
+pub outside_below : (offset len at : ℕ) → at < offset → is_inside offset len at ≡ false
 outside_below offset len at h = grind (arith, nat_tests)
 
-outside_above : (offset len at : ℕ) → offset + len ≤ at → is_inside offset len at ≡ false
+pub outside_above : (offset len at : ℕ) → offset + len ≤ at → is_inside offset len at ≡ false
 outside_above offset len at h = grind (arith, nat_tests)
 
 and_parts : (a b : Bool) → (a && b) ≡ true → (a ≡ true) × (b ≡ true)

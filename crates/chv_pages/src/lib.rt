@@ -4,5 +4,9 @@
 mod copies;
 mod edits;
 mod held;
+mod lists;
 mod page;
+mod pages;
 mod reads;
+
+pub use pages::Pages;
