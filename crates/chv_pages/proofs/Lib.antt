@@ -3,3 +3,4 @@ pub mod Pieces
 pub mod Places
 pub mod Puts
 pub mod Writes
+pub mod Views

@@ -86,7 +86,7 @@ writes-piece held place block offset page d from at small fits number e copied =
     record {
       numbers = at-numbers held place (block * 512 + offset / 4096) v at e;
       keeps = λ high a. at-keeps 0 high held place (block * 512 + offset / 4096) v at e (copied.len ∙ at-len 0 high held place (block * 512 + offset / 4096) d at a) a;
-      bytes_after = λ b o low. at-set held place (block * 512 + offset / 4096) b o v at e ∙ by b o (is_address (block * 512 + offset / 4096) b o) refl;
+      bytes_after = λ b o. at-set held place (block * 512 + offset / 4096) b o v at e ∙ by b o (is_address (block * 512 + offset / 4096) b o) refl;
     }
   where
     v : Held

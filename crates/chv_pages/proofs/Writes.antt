@@ -63,8 +63,8 @@ writes-then old mid new block offset xs ys first second =
     record {
       numbers = second.numbers ∙ first.numbers;
       keeps = λ high a. second.keeps high (first.keeps high a);
-      bytes_after = λ b at low. second.bytes_after b at low
-          ∙ ap (λ v. cond (b == block && is_inside (offset + length xs) (length ys) at) (slice_index ys (at - (offset + length xs))) v) (first.bytes_after b at low)
+      bytes_after = λ b at. second.bytes_after b at
+          ∙ ap (λ v. cond (b == block && is_inside (offset + length xs) (length ys) at) (slice_index ys (at - (offset + length xs))) v) (first.bytes_after b at)
           ∙ two-bytes offset at xs ys (b == block) (held_at old b at);
     }
 
@@ -76,7 +76,7 @@ writes-none held block offset =
     record {
       numbers = refl;
       keeps = λ high a. a;
-      bytes_after = λ b at low. sym (ap (λ x. cond x (slice_index [] (at - offset)) (held_at held b at)) (and_none (b == block) (is_inside offset 0 at) (no_bytes offset at)));
+      bytes_after = λ b at. sym (ap (λ x. cond x (slice_index [] (at - offset)) (held_at held b at)) (and_none (b == block) (is_inside offset 0 at) (no_bytes offset at)));
     }
 
 -- the first bytes, and those of one more piece

@@ -59,4 +59,4 @@ pub record MakesRoom (old new : List Held) : Type 0 where
 pub record WritesHeld (old new : List Held) (block offset : ℕ) (bytes : List ℕ) : Type 0 where
   pub numbers : map (λ h. h.number) new ≡ map (λ h. h.number) old
   pub keeps : (high : ℕ) → AreHeld 0 high old → AreHeld 0 high new
-  pub bytes_after : (b at : ℕ) → at < 2097152 → held_at new b at ≡ (if b == block && is_inside offset (length bytes) at then slice_index bytes (at - offset) else held_at old b at)
+  pub bytes_after : (b at : ℕ) → held_at new b at ≡ (if b == block && is_inside offset (length bytes) at then slice_index bytes (at - offset) else held_at old b at)

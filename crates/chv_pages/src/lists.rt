@@ -12,7 +12,7 @@ pub fn blank_pages(alloc: Global, count: usize) -> Result<Vec<Page>, AllocError>
     ensures { IfOk result (λ pages. vec_len pages ≡ count) }
 {
     let mut pages = Vec::new(alloc);
-    for _ in 0..count {
+    while pages.len() < count {
         pages.push(Page::blank(alloc)?)?;
     }
     Ok(pages)
