@@ -117,10 +117,10 @@ page_address number block page b at e small =
     inside_parts offset len at h = (grind (arith, nat_tests), grind (arith, nat_tests))
 
 -- a whole page that was written is the bytes
-pub whole-page : (old new bytes : List ℕ) → length old ≡ 4096 → length bytes ≡ 4096 → CopiedAt old new 0 bytes → new ≡ bytes
+pub whole-page : (old new bytes : List ℕ) → length new ≡ 4096 → length bytes ≡ 4096 → CopiedAt old new 0 bytes → new ≡ bytes
 whole-page old new bytes full whole copied =
-    ext_get_or 0 new bytes (copied.len ∙ full ∙ sym whole)
-    (λ k small. ap (slice_index new) (sym (zero-add k)) ∙ copied.inside k (omega (arith, copied.len, full, whole)))
+    ext_get_or 0 new bytes (full ∙ sym whole)
+    (λ k small. ap (slice_index new) (sym (zero-add k)) ∙ copied.inside k (omega (arith, full, whole)))
 
 pub fills-are : (memory : Contents) (high : ℕ) (old : List Held) (number block page : ℕ) (bytes : List ℕ) (reserved : ℕ) → visible old ≡ memory.pages → reserved + 1 ≡ memory.reserved → AreHeld 0 high old → number ≡ block * 512 + page → number < high → page < 512 → length bytes ≡ 4096 → Fills memory (record { blocks = memory.blocks; pages = visible (put old number bytes); reserved = reserved }) block page bytes
 fills-are memory high old number block page bytes reserved e f a where_ low small whole =
@@ -285,7 +285,3 @@ pub below-end : (low high : ℕ) (held : List Held) (k : ℕ) (d : Held) → Are
 below-end low high [] k d a small = absurd (omega arith)
 below-end low high (x ∷ xs) zero d a small = a.1
 below-end low high (x ∷ xs) (suc k) d a small = below-end (x.number + 1) high xs k d a.3 (omega arith)
-
-pub higher : (low high top : ℕ) (held : List Held) → high ≤ top → AreHeld low high held → AreHeld low top held
-higher low high top [] h a = tt
-higher low high top (x ∷ xs) h a = (a.0, omega arith, a.2, higher (x.number + 1) high top xs h a.3)

@@ -18,9 +18,9 @@ pub fn blank_pages(alloc: Global, count: usize) -> Result<Vec<Page>, AllocError>
     Ok(pages)
 }
 
-/// The pages that are not all zero, in their order.
-pub fn shown_pages(alloc: Global, held: &[Held]) -> Result<Row<PageAt>, AllocError>
-    requires { AreHeld 0 (2 ^ 32 * 512) held.now }
+/// The pages of a number of blocks that are not all zero, in their order.
+pub fn shown_pages(alloc: Global, blocks: u32, held: &[Held]) -> Result<Row<PageAt>, AllocError>
+    requires { AreHeld 0 (blocks * 512) held.now }
     ensures { IfOk result (λ pages. pages ≡ visible held.now) }
 {
     let mut pages = Row::empty(alloc);

@@ -54,7 +54,8 @@ impl Page {
     /// Writes bytes from a place on.
     pub fn write(&mut self, at: usize, from: &[u8])
         requires { at + length from.now ≤ 4096 }
-        ensures { CopiedAt self.old self.new at from.now }
+        ensures copied { CopiedAt self.old self.new at from.now }
+        ensures full { length self.new ≡ 4096 }
     {
         copy_at(&mut self.bytes, at, from);
     }

@@ -118,6 +118,7 @@ impl Pages {
         ensures pages { IfOk result (λ pages. pages ≡ pages_of self.now.blocks (byte_at self.now)) }
         ensures exact { AreExact self.now }
     {
-        shown_pages(self.alloc, self.held.as_slice())
+        let blocks = self.blocks;
+        shown_pages(self.alloc, blocks, self.held.as_slice())
     }
 }

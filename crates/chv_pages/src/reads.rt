@@ -73,7 +73,8 @@ pub fn piece_len(offset: usize, len: usize) -> usize
 /// Reads a block from an offset on.
 pub fn read_held(held: &[Held], block: u32, offset: usize, into: &mut [u8])
     requires { offset + length into.old ≤ 2097152 }
-    ensures { (k : ℕ) → k < length into.old → slice_index into.new k ≡ held_at held.now block (offset + k) }
+    ensures len { length into.new ≡ length into.old }
+    ensures read { (k : ℕ) → k < length into.old → slice_index into.new k ≡ held_at held.now block (offset + k) }
 {
     let mut done = 0;
     while done < into.len() {
