@@ -8,5 +8,7 @@ mod lists;
 mod page;
 mod pages;
 mod reads;
+#[cfg(test)]
+mod tests;
 
 pub use pages::Pages;
