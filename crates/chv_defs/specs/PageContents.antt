@@ -51,7 +51,7 @@ pub record Clears (old new : Contents) (block : ℕ) : Type 0 where
   pub bytes_after : (b at : ℕ) → byte_at new b at ≡ (if b == block then 0 else byte_at old b at)
 
 -- the 4,096 bytes of a page, by the byte at each offset of each block
-abbrev pub page_bytes : (ℕ → ℕ → ℕ) → ℕ → ℕ → List ℕ
+unfoldable pub page_bytes : (ℕ → ℕ → ℕ) → ℕ → ℕ → List ℕ
 page_bytes byte block page = map (byte block) (range_with_len (page * 4096) 4096)
 
 -- whether the bytes are all zero

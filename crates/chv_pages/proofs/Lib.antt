@@ -1,0 +1,6 @@
+pub mod Bytes
+pub mod Pieces
+pub mod Places
+pub mod Puts
+pub mod Writes
+pub mod Views

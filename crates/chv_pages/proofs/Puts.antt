@@ -1,0 +1,160 @@
+-- Pages that are put at their number.
+use Rattle.std.proofs.Common.{◌≡◌, ◌≢◌, ℕ, ◌+◌, ◌-◌, ◌*◌, ◌/◌, ◌%◌, ◌<◌, ◌≤◌, Bool, true, false, List, [], ◌∷◌, ◌++◌, Option, None, Some, refl, sym, ◌∙◌, ap, subst, arith, length, get_or, set, take, drop, suc, zero}
+use Rattle.std.specs.Prelude.{cond, ◌==◌, ◌||◌, ◌&&◌, not, nat_lt, insert, slice_get, slice_index}
+use Rattle.std.specs.List.{prefix_len, cons_option}
+use Rattle.std.proofs.lemmas.List.Sums.{prefix_len-le-length}
+use Rattle.chv_pages.proofs.Places.{one_address}
+use Rattle.std.specs.Option.{option_map_or}
+use Rattle.std.proofs.lemmas.Bool.Decides.{nat_tests}
+use Rattle.chv_defs.specs.PageContents.{is_blank}
+use Rattle.chv_pages.specs.declared.held.Held.{Held}
+use Rattle.chv_pages.specs.HeldPages.{has_number, held_at, is_address, is_there, put, shown, visible, AreHeld, MakesRoom}
+
+-- put where a page with the number stands
+pub put-set : (held : List Held) (number : ℕ) (page : List ℕ) → is_there held (prefix_len (λ h. nat_lt h.number number) held) number ≡ true → set held (prefix_len (λ h. nat_lt h.number number) held) (record { number = number; page = page }) ≡ put held number page
+put-set [] number page there = cc
+put-set (h ∷ hs) number page there = by (nat_lt h.number number) there (put-set hs number page)
+  where
+    len : ℕ
+    len = prefix_len (λ h. nat_lt h.number number) hs
+
+    by : (b : Bool) → is_there (h ∷ hs) (cond b (1 + prefix_len (λ h. nat_lt h.number number) hs) 0) number ≡ true →
+        (is_there hs (prefix_len (λ h. nat_lt h.number number) hs) number ≡ true → set hs (prefix_len (λ h. nat_lt h.number number) hs) (record { number = number; page = page }) ≡ put hs number page) →
+        set (h ∷ hs) (cond b (1 + prefix_len (λ h. nat_lt h.number number) hs) 0) (record { number = number; page = page })
+        ≡ cond b (h ∷ put hs number page) (cond (h.number == number) (record { number = number; page = page } ∷ hs) (record { number = number; page = page } ∷ h ∷ hs))
+    by true g f =
+        let next : 1 + prefix_len (λ h. nat_lt h.number number) hs ≡ suc (prefix_len (λ h. nat_lt h.number number) hs) = omega arith in
+        ap (λ n. set (h ∷ hs) n (record { number = number; page = page })) next
+        ∙ ap (λ rest. h ∷ rest) (f (sym (ap (λ n. is_there (h ∷ hs) n number) next) ∙ g))
+    by false g f = sym (ap (λ b. cond b (record { number = number; page = page } ∷ hs) (record { number = number; page = page } ∷ h ∷ hs)) g)
+
+-- put where no page with the number stands
+pub put-insert : (held : List Held) (number : ℕ) (page : List ℕ) → is_there held (prefix_len (λ h. nat_lt h.number number) held) number ≡ false → insert held (prefix_len (λ h. nat_lt h.number number) held) (record { number = number; page = page }) ≡ put held number page
+put-insert [] number page there = refl
+put-insert (h ∷ hs) number page there = by (nat_lt h.number number) there (put-insert hs number page)
+  where
+    by : (b : Bool) → is_there (h ∷ hs) (cond b (1 + prefix_len (λ h. nat_lt h.number number) hs) 0) number ≡ false →
+        (is_there hs (prefix_len (λ h. nat_lt h.number number) hs) number ≡ false → insert hs (prefix_len (λ h. nat_lt h.number number) hs) (record { number = number; page = page }) ≡ put hs number page) →
+        insert (h ∷ hs) (cond b (1 + prefix_len (λ h. nat_lt h.number number) hs) 0) (record { number = number; page = page })
+        ≡ cond b (h ∷ put hs number page) (cond (h.number == number) (record { number = number; page = page } ∷ hs) (record { number = number; page = page } ∷ h ∷ hs))
+    by true g f =
+        let next : 1 + prefix_len (λ h. nat_lt h.number number) hs ≡ suc (prefix_len (λ h. nat_lt h.number number) hs) = omega arith in
+        ap (λ n. insert (h ∷ hs) n (record { number = number; page = page })) next
+        ∙ ap (λ rest. h ∷ rest) (f (sym (ap (λ n. is_there (h ∷ hs) n number) next) ∙ g))
+    by false g f = sym (ap (λ b. cond b (record { number = number; page = page } ∷ hs) (record { number = number; page = page } ∷ h ∷ hs)) g)
+
+-- the same, of a place and of lists that were read before
+pub put-set-at : (items before read : List Held) (place number : ℕ) (page : List ℕ) → before ≡ items → read ≡ items → place ≡ prefix_len (λ h. nat_lt h.number number) before → true ≡ is_there read place number → set items place (record { number = number; page = page }) ≡ put items number page
+put-set-at items before read place number page e f at there =
+    let where_ : place ≡ prefix_len (λ h. nat_lt h.number number) items = at ∙ ap (prefix_len (λ h. nat_lt h.number number)) e in
+    let stands : is_there items (prefix_len (λ h. nat_lt h.number number) items) number ≡ true =
+    sym (there ∙ ap (λ xs. is_there xs place number) f ∙ ap (λ k. is_there items k number) where_) in
+    ap (λ k. set items k (record { number = number; page = page })) where_ ∙ put-set items number page stands
+
+pub put-insert-at : (items before read : List Held) (place number : ℕ) (page : List ℕ) → before ≡ items → read ≡ items → place ≡ prefix_len (λ h. nat_lt h.number number) before → false ≡ is_there read place number → insert items place (record { number = number; page = page }) ≡ put items number page
+put-insert-at items before read place number page e f at there =
+    let where_ : place ≡ prefix_len (λ h. nat_lt h.number number) items = at ∙ ap (prefix_len (λ h. nat_lt h.number number)) e in
+    let stands : is_there items (prefix_len (λ h. nat_lt h.number number) items) number ≡ false =
+    sym (there ∙ ap (λ xs. is_there xs place number) f ∙ ap (λ k. is_there items k number) where_) in
+    ap (λ k. insert items k (record { number = number; page = page })) where_ ∙ put-insert items number page stands
+
+pub place-le : (before : List Held) (place number : ℕ) → place ≡ prefix_len (λ h. nat_lt h.number number) before → place ≤ length before
+place-le before place number at = omega (arith, at, prefix_len-le-length (λ (h : Held). nat_lt h.number number) before)
+
+or_cases : (a b c : Bool) → (b ≡ c) → (a || b) ≡ (a || c)
+or_cases a b c e = ap (λ x. a || x) e
+
+-- ---- what a page that was put changes
+
+or_swap : (a b c : Bool) → (a || (b || c)) ≡ (b || (a || c))
+or_swap true true c = refl
+or_swap true false c = refl
+or_swap false true c = refl
+or_swap false false c = refl
+
+or_twice : (a c : Bool) → (a || c) ≡ (a || (a || c))
+or_twice true c = refl
+or_twice false c = refl
+
+-- which numbers are held
+pub put-has : (held : List Held) (number : ℕ) (page : List ℕ) (n : ℕ) → has_number (put held number page) n ≡ ((number == n) || has_number held n)
+put-has [] number page n = refl
+put-has (h ∷ hs) number page n = by (nat_lt h.number number) (h.number == number) refl (put-has hs number page n)
+  where
+    by : (b e : Bool) → (h.number == number) ≡ e → has_number (put hs number page) n ≡ ((number == n) || has_number hs n) →
+        has_number (cond b (h ∷ put hs number page) (cond e (record { number = number; page = page } ∷ hs) (record { number = number; page = page } ∷ h ∷ hs))) n
+        ≡ ((number == n) || ((h.number == n) || has_number hs n))
+    by true e p r = ap (λ x. (h.number == n) || x) r ∙ or_swap (h.number == n) (number == n) (has_number hs n)
+    by false true p r =
+        let same : h.number ≡ number = grind (arith, nat_tests) in
+        or_twice (number == n) (has_number hs n) ∙ ap (λ m. (number == n) || ((m == n) || has_number hs n)) (sym same)
+    by false false p r = refl
+
+-- the pages ascend as before
+pub put-keeps : (low high : ℕ) (held : List Held) (number : ℕ) (page : List ℕ) → low ≤ number → number < high → length page ≡ 4096 → AreHeld low high held → AreHeld low high (put held number page)
+put-keeps low high [] number page from to len a = (from, to, len, tt)
+put-keeps low high (h ∷ hs) number page from to len a =
+    by (nat_lt h.number number) (h.number == number) refl refl (λ next. put-keeps (h.number + 1) high hs number page next to len a.3)
+  where
+    by : (b e : Bool) → nat_lt h.number number ≡ b → (h.number == number) ≡ e → (h.number + 1 ≤ number → AreHeld (h.number + 1) high (put hs number page)) →
+        AreHeld low high (cond b (h ∷ put hs number page) (cond e (record { number = number; page = page } ∷ hs) (record { number = number; page = page } ∷ h ∷ hs)))
+    by true e p q f = (a.0, a.1, a.2, f (grind (arith, nat_tests)))
+    by false true p q f =
+        let same : h.number ≡ number = grind (arith, nat_tests) in
+        (from, to, len, subst (λ n. AreHeld (n + 1) high hs) same a.3)
+    by false false p q f =
+        let after : number + 1 ≤ h.number = grind (arith, nat_tests) in
+        (from, to, len, (after, a.1, a.2, a.3))
+
+not_or : (a b : Bool) → (a || b) ≡ false → (a ≡ false) × (b ≡ false)
+not_or true b h = cc
+not_or false b h = (refl, h)
+
+-- a page of zeros is not shown
+pub put-visible : (held : List Held) (number : ℕ) (page : List ℕ) → is_blank page ≡ true → has_number held number ≡ false → visible (put held number page) ≡ visible held
+put-visible [] number page blank none = ap (λ b. cons_option (cond b None (Some (record { block = number / 512; page = number % 512; bytes = page }))) []) blank
+put-visible (h ∷ hs) number page blank none =
+    by (nat_lt h.number number) (h.number == number) refl (not_or (h.number == number) (has_number hs number) none).0 (put-visible hs number page blank (not_or (h.number == number) (has_number hs number) none).1)
+  where
+    by : (b e : Bool) → (h.number == number) ≡ e → (h.number == number) ≡ false → visible (put hs number page) ≡ visible hs →
+        visible (cond b (h ∷ put hs number page) (cond e (record { number = number; page = page } ∷ hs) (record { number = number; page = page } ∷ h ∷ hs))) ≡ visible (h ∷ hs)
+    by true e p q r = ap (λ rest. cons_option (shown h) rest) r
+    by false true p q r = cc
+    by false false p q r = ap (λ b. cons_option (cond b None (Some (record { block = number / 512; page = number % 512; bytes = page }))) (visible (h ∷ hs))) blank
+
+-- a page that is put is read at its addresses
+pub put-read : (held : List Held) (number : ℕ) (page : List ℕ) (b o : ℕ) → held_at (put held number page) b o ≡ cond (is_address number b o) (slice_index page (o % 4096)) (held_at held b o)
+put-read [] number page b o = refl
+put-read (h ∷ hs) number page b o = by (nat_lt h.number number) (h.number == number) refl refl (is_address h.number b o) (is_address number b o) refl refl (put-read hs number page b o)
+  where
+    by : (l e : Bool) → nat_lt h.number number ≡ l → (h.number == number) ≡ e → (t u : Bool) → is_address h.number b o ≡ t → is_address number b o ≡ u →
+        held_at (put hs number page) b o ≡ cond u (slice_index page (o % 4096)) (held_at hs b o) →
+        held_at (cond l (h ∷ put hs number page) (cond e (record { number = number; page = page } ∷ hs) (record { number = number; page = page } ∷ h ∷ hs))) b o
+        ≡ cond u (slice_index page (o % 4096)) (cond t (slice_index h.page (o % 4096)) (held_at hs b o))
+    by true e p q true true s v r =
+        let same : h.number ≡ number = one_address h.number number b o s v in
+        absurd (grind (arith, nat_tests))
+    by true e p q true false s v r = rw s refl
+    by true e p q false u s v r = rw s r
+    by false true p q t true s v r = rw v refl
+    by false true p q t false s v r =
+        let same : h.number ≡ number = grind (arith, nat_tests) in
+        let apart : t ≡ false = sym s ∙ ap (λ n. is_address n b o) same ∙ v in
+        rw (v, apart) refl
+    by false false p q t true s v r = rw v refl
+    by false false p q t false s v r = rw (v, s) refl
+
+-- a page of zeros that was put where none was
+pub makes-room : (held : List Held) (number : ℕ) (page : List ℕ) → is_blank page ≡ true → has_number held number ≡ false → MakesRoom held (put held number page)
+makes-room held number page blank none =
+    record {
+      same = put-visible held number page blank none;
+      keeps = λ n h. put-has held number page n ∙ right (number == n) (has_number held n) h;
+    }
+  where
+    right : (a b : Bool) → b ≡ true → (a || b) ≡ true
+    right true b h = refl
+    right false b h = h
+
+pub put-has-it : (held : List Held) (number : ℕ) (page : List ℕ) → has_number (put held number page) number ≡ true
+put-has-it held number page = put-has held number page number ∙ ap (λ b. b || has_number held number) (let e : (number == number) ≡ true = grind (arith, nat_tests) in e)

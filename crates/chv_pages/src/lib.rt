@@ -1,0 +1,14 @@
+//! What guest memory holds, in pages that are made where they are written.
+#![tactic(auto)]
+
+mod copies;
+mod edits;
+mod held;
+mod lists;
+mod page;
+mod pages;
+mod reads;
+#[cfg(test)]
+mod tests;
+
+pub use pages::Pages;
