@@ -3,5 +3,6 @@ pub mod Lines
 pub mod Printed
 pub mod Replied
 pub mod Saying
+pub mod Taking
 pub mod Whole
 pub mod Words

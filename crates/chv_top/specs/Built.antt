@@ -31,7 +31,7 @@ IsBuiltEntry e = IsBuilt e.call × IsBuiltReply e.reply
 abbrev pub plain_trace : List ControlEntry → List SessionTrace → Trace
 plain_trace control sessions = record { disks = []; vcpus = []; control = control; banks = []; sessions = sessions }
 
--- a trace of sessions with built calls
+-- a trace without disks, vCPUs and banks, whose control entries are of built calls
 pub record IsPlain (t : Trace) : Type 0 where
   pub parts : t ≡ plain_trace t.control t.sessions
   pub entries : AllByRecursion IsBuiltEntry t.control

@@ -1,11 +1,11 @@
 -- What each status of the program says of a run.
-use Rattle.std.specs.Prelude.{◌≡◌, ◌⊎◌, ℕ, List, [], ◌∷◌, ◌++◌, Option, None, Some, IfSome}
+use Rattle.std.specs.Prelude.{◌≡◌, ◌≤◌, ◌⊎◌, ℕ, length, List, [], ◌∷◌, ◌++◌, Option, None, Some, IfSome}
 use Rattle.chv_defs.specs.declared.control.ControlCall.TheVariants as call
 use Rattle.chv_defs.specs.declared.machine.Machine.{Machine}
 use Rattle.chv_defs.specs.declared.rule.Reason.TheVariants.{NotBuilt}
 use Rattle.chv_defs.specs.declared.scene.Asked.{Asked}
 use Rattle.chv_defs.specs.declared.trace.Trace.{Trace}
-use Rattle.chv_defs.specs.Outside.{Rose, Gains, GainsPart}
+use Rattle.chv_defs.specs.Outside.{Rose, Loses, Gains, GainsPart}
 use Rattle.chv_defs.specs.LegalControl.{IsLegal, calls_by}
 use Rattle.chv_defs.specs.ProgramText.{read_fault_line, scene_fault_line}
 use Rattle.chv_defs.specs.ScenarioText.{IsScenario}
@@ -27,8 +27,8 @@ exit_code status.Memory = 6
 abbrev pub IsRead : Option (List ℕ) → Option (List ℕ) → List ℕ → Type 0
 IsRead left left_after text = IfSome left (λ input. (input ≡ text) × (left_after ≡ Some []))
 
--- A scenario was played: its text is the input, which was read to its end; its trace is the schedule's; and the bytes
--- written are the text of that trace. The trace's control calls form one legal history, in which the session's calls are
+-- A scenario was played: its text is the input, which was read to its end, where the input tells its bytes; its trace is
+-- the schedule's; and the bytes written are the text of that trace. The trace's control calls form one legal history, in which the session's calls are
 -- those of its requests, each once in order, and then one Bye.
 pub record IsPlayed (left left_after written written_after : Option (List ℕ)) : Type 0 where
   pub text : List ℕ
@@ -41,6 +41,10 @@ pub record IsPlayed (left left_after written written_after : Option (List ℕ)) 
   pub output : Gains written written_after (trace_text trace)
   pub legal : IsLegal trace.control machine
   pub in_order : calls_by 1 trace.control ≡ calls_of requests ++ call.Bye ∷ []
+
+-- At most so many bytes were taken from the input, where it tells them.
+abbrev pub TakesAtMost : Option (List ℕ) → Option (List ℕ) → ℕ → Type 0
+TakesAtMost left left_after most = (taken : List ℕ) × Loses left left_after taken × (length taken ≤ most)
 
 -- The input, where it tells its bytes, is no scenario that is read.
 abbrev pub IsNoScenario : Option (List ℕ) → Type 0
@@ -57,7 +61,7 @@ abbrev pub IsPartOfOwed : Option (List ℕ) → Option (List ℕ) → ℕ → �
 IsPartOfOwed left left_after reads reads_after written written_after =
     (text : List ℕ) × IsOwed left left_after reads reads_after text × GainsPart written written_after text
 
--- A scenario that is read, with no fault of the input and the output, is played, unless there is no memory.
+-- Where the input tells its bytes and they are a scenario, and neither count rose, it is played, unless there is no memory.
 abbrev pub IsComplete : Option (List ℕ) → ℕ → ℕ → ℕ → ℕ → Status → Type 0
 IsComplete left reads reads_after writes writes_after result = IfSome left (λ input. (requests : List Asked)
     → IsScenario input requests → (Rose reads reads_after → ⊥) → (Rose writes writes_after → ⊥)

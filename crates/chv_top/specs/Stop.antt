@@ -1,4 +1,4 @@
--- Why nothing was played.
+-- Why nothing was played, and what each status says of a run that plays.
 use Rattle.std.specs.Prelude.{◌≡◌, ◌≤◌, ◌⊎◌, ℕ, List, map, Option}
 use Rattle.chv_defs.specs.declared.rule.Reason.TheVariants.{NotBuilt}
 use Rattle.chv_defs.specs.Outside.{Rose, Gains, GainsPart}

@@ -1,5 +1,6 @@
 // Reads an input up to a limit.
 ghost use Rattle.std.specs.Prelude.{◌≡◌, ◌≤◌, ◌<◌, IfOk, IfErr};
+ghost use Rattle.chv_top.specs.Outcome.{TakesAtMost};
 ghost use Rattle.chv_top.specs.Taken.{Took, HasRead, FailsBy};
 
 use chv_io::Source;
@@ -23,6 +24,7 @@ pub fn read_input<S: Source>(
 ) -> Result<Vec<u8>, InputError>
     ensures ok { IfOk result (λ bytes. HasRead (S.left input.old) (S.left input.new) bytes.items limit) }
     ensures err { IfErr result (λ error. FailsBy (S.read_faults input.old) (S.read_faults input.new) error) }
+    ensures few { TakesAtMost (S.left input.old) (S.left input.new) limit }
     ensures later { S.read_faults input.old ≤ S.read_faults input.new }
 {
     let mut bytes = Vec::new(alloc);
@@ -44,6 +46,7 @@ fn take_piece<S: Source>(
     requires { 0 < most }
     ensures ok { IfOk result (λ count. Took (S.left input.old) (S.left input.new) bytes.old.items bytes.new.items most count) }
     ensures err { IfErr result (λ error. FailsBy (S.read_faults input.old) (S.read_faults input.new) error) }
+    ensures few { TakesAtMost (S.left input.old) (S.left input.new) most }
     ensures later { S.read_faults input.old ≤ S.read_faults input.new }
 {
     let mut buffer = [0u8; PIECE];

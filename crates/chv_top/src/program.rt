@@ -4,6 +4,7 @@ ghost use Rattle.chv_defs.specs.declared.rule.Reason.TheVariants.{NotBuilt as no
 ghost use Rattle.chv_defs.specs.ProgramText.{read_fault_line, scene_fault_line};
 ghost use Rattle.chv_defs.specs.Schedule.{schedule};
 ghost use Rattle.chv_defs.specs.TraceText.{trace_text};
+ghost use Rattle.chv_top.specs.Outcome.{TakesAtMost};
 ghost use Rattle.chv_top.specs.Request.{asked_of};
 ghost use Rattle.chv_top.specs.Stop.{IsScenarioOf, IsTraceOf, StopsBy, Writes, Says};
 
@@ -33,6 +34,7 @@ pub enum Stop {
 pub fn play_input<S: Source, K: Sink>(alloc: Global, input: &mut S, out: &mut K) -> Status
     ensures says { Says (S.left input.old) (S.left input.new) (S.read_faults input.old) (S.read_faults input.new)
         (K.written out.old) (K.written out.new) (K.write_faults out.old) (K.write_faults out.new) result }
+    ensures few { TakesAtMost (S.left input.old) (S.left input.new) 17013 }
     ensures reads { S.read_faults input.old ≤ S.read_faults input.new }
     ensures writes { K.write_faults out.old ≤ K.write_faults out.new }
 {
@@ -53,6 +55,7 @@ const NOT_BUILT: Status = Status::Scene {
 fn printed_trace<S: Source>(alloc: Global, input: &mut S) -> Result<String, Stop>
     ensures ok { IfOk result (λ text. IsTraceOf (S.left input.old) (S.left input.new) (string_bytes text)) }
     ensures err { IfErr result (λ stop. StopsBy (S.left input.old) (S.read_faults input.old) (S.read_faults input.new) stop) }
+    ensures few { TakesAtMost (S.left input.old) (S.left input.new) 17013 }
     ensures later { S.read_faults input.old ≤ S.read_faults input.new }
 {
     let requests = scenario_in(alloc, input)?;
@@ -73,6 +76,7 @@ fn print_played(alloc: Global, requests: &[Request]) -> Result<String, AllocErro
 fn scenario_in<S: Source>(alloc: Global, input: &mut S) -> Result<Vec<Request>, Stop>
     ensures ok { IfOk result (λ requests. IsScenarioOf (S.left input.old) (S.left input.new) requests.items) }
     ensures err { IfErr result (λ stop. StopsBy (S.left input.old) (S.read_faults input.old) (S.read_faults input.new) stop) }
+    ensures few { TakesAtMost (S.left input.old) (S.left input.new) 17013 }
     ensures later { S.read_faults input.old ≤ S.read_faults input.new }
 {
     let text = match read_input(alloc, input, INPUT_LIMIT) {

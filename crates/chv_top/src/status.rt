@@ -8,7 +8,7 @@ pub enum Status {
     Done,
     /// The words are none of the program's.
     Usage,
-    /// The scenario is refused: the first line that fails, counted from 1, and why.
+    /// The scenario is refused: a line, counted from 1, and why. So far always line 1 and NotBuilt.
     Scene { line: u32, reason: Reason },
     /// The input could not be read.
     ReadFault,

@@ -3,7 +3,7 @@ ghost use Rattle.std.specs.Prelude.{◌≡◌, ◌⊎◌, ◌≤◌, ◌↔◌, 
 ghost use Rattle.chv_defs.specs.Outside.{Rose, Gains, GainsPart};
 ghost use Rattle.chv_defs.specs.ProgramText.{usage_line, read_fault_line, scene_fault_line};
 ghost use Rattle.chv_defs.specs.declared.rule.Reason.{Reason};
-ghost use Rattle.chv_top.specs.Outcome.{IsPlayed, IsNoScenario, IsPartOfOwed, IsComplete};
+ghost use Rattle.chv_top.specs.Outcome.{IsPlayed, IsNoScenario, IsPartOfOwed, IsComplete, TakesAtMost};
 ghost use Rattle.chv_top.specs.Words.{ArePlay};
 
 use crate::program::{play_input, write};
@@ -34,7 +34,8 @@ pub fn play_program<S: Source, K: Sink>(alloc: Global, input: &mut S, out: &mut 
     ensures complete { IsComplete (S.left input.old) (S.read_faults input.old) (S.read_faults input.new)
         (K.write_faults out.old) (K.write_faults out.new) result.status }
 
-    // No count of faults falls.
+    // No more is read than shows that a scenario is too long, and no count of faults falls.
+    ensures few { TakesAtMost (S.left input.old) (S.left input.new) 17013 }
     ensures reads { S.read_faults input.old ≤ S.read_faults input.new }
     ensures writes { K.write_faults out.old ≤ K.write_faults out.new }
 {
@@ -78,7 +79,8 @@ pub fn run_program<S: Source, K: Sink>(
         → IsComplete (S.left input.old) (S.read_faults input.old) (S.read_faults input.new)
         (K.write_faults out.old) (K.write_faults out.new) result.status }
 
-    // No count of faults falls.
+    // No more is read than shows that a scenario is too long, and no count of faults falls.
+    ensures few { TakesAtMost (S.left input.old) (S.left input.new) 17013 }
     ensures reads { S.read_faults input.old ≤ S.read_faults input.new }
     ensures writes { K.write_faults out.old ≤ K.write_faults out.new }
 {
