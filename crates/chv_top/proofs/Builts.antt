@@ -1,13 +1,10 @@
 -- The answers to the requests, and the trace that they make.
-use Rattle.std.proofs.Common.{◌≡◌, ℕ, Bool, true, false, List, [], ◌∷◌, ◌++◌, map, flat_map, Option, None, Some, not, is_some, refl, sym, ◌∙◌, ap, subst, lit≤}
-use Rattle.std.specs.List.{AllByRecursion, filter_map}
+use Rattle.std.proofs.Common.{◌≡◌, ℕ, Bool, true, false, List, [], ◌∷◌, ◌++◌, map, flat_map, Some, not, is_some, refl, sym, ◌∙◌, ap, lit≤}
+use Rattle.std.specs.List.{AllByRecursion}
 use Rattle.chv_defs.specs.declared.machine.Machine.{Machine}
 use Rattle.chv_defs.specs.declared.control.ControlCall.{ControlCall}
 use Rattle.chv_defs.specs.declared.control.ControlCall.TheVariants as call
-use Rattle.chv_defs.specs.declared.control.ControlReply.{ControlReply}
 use Rattle.chv_defs.specs.declared.control.ControlReply.TheVariants as reply
-use Rattle.chv_defs.specs.declared.control.ControlEntry.{ControlEntry}
-use Rattle.chv_defs.specs.declared.scene.Asked.{Asked}
 use Rattle.chv_defs.specs.declared.rule.Rule.TheVariants.{NotCreated, AlreadyCreated}
 use Rattle.chv_defs.specs.declared.session.SessionEnd.TheVariants as session
 use Rattle.chv_defs.specs.declared.trace.Trace.{Trace}
@@ -16,13 +13,12 @@ use Rattle.chv_defs.specs.DefaultConfig.{default_config}
 use Rattle.chv_defs.specs.ConfigRules.{config_rules, first_broken}
 use Rattle.chv_defs.specs.Shown.{shown}
 use Rattle.chv_defs.specs.ApiStep.{IsBuilt, refused_or, reply_to, after}
-use Rattle.chv_defs.specs.ControlStep.{Step}
 use Rattle.chv_defs.specs.LegalControl.{Leads, IsLegal, calls_by}
 use Rattle.chv_defs.specs.SceneText.{request_bytes}
 use Rattle.chv_defs.specs.Routes.{call_of, reply_of}
-use Rattle.chv_defs.specs.Schedule.{entry_of, entries_of, calls_of, schedule}
+use Rattle.chv_defs.specs.Schedule.{entries_of, calls_of, schedule}
 use Rattle.chv_top.specs.Request.{asked_of, call_made}
-use Rattle.chv_top.specs.Played.{played, bytes_asked, bytes_replied, entries_with_bye}
+use Rattle.chv_top.specs.Played.{played, bytes_asked, entries_with_bye}
 use Rattle.chv_top.specs.Built.{IsBuiltReply, IsBuiltEntry, IsPlain}
 use Rattle.chv_top.specs.declared.request.Request.{Request}
 use Rattle.chv_top.specs.declared.request.Request.TheVariants.{Ping, Info, Create}

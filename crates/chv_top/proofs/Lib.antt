@@ -1,7 +1,6 @@
 pub mod Builts
 pub mod Lines
 pub mod Printed
-pub mod Replied
 pub mod Saying
 pub mod Taking
 pub mod Whole

@@ -1,17 +1,15 @@
 -- Lines of requests, and the scenarios that they make.
-use Rattle.std.proofs.Common.{◌≡◌, ◌≤◌, ◌<◌, ◌+◌, ℕ, suc, lit<, Bool, true, false, ◌&&◌, List, [], ◌∷◌, ◌++◌, length, map, flat_map, get_or, drop, codes, Option, None, Some, IsSome, IfSome, IfNone, Result, Ok, Err, IfOk, if◌then◌else◌, refl, sym, ◌∙◌, ap, subst, arith, append_assoc, length-append}
+use Rattle.std.proofs.Common.{◌≡◌, ◌≤◌, ◌<◌, ◌+◌, ℕ, suc, lit<, Bool, true, false, ◌&&◌, List, [], ◌∷◌, ◌++◌, length, map, flat_map, get_or, drop, codes, Option, None, Some, IsSome, IfSome, IfNone, Result, Ok, Err, IfOk, if◌then◌else◌, refl, sym, ◌∙◌, ap, arith, append_assoc, length-append}
 use Rattle.std.specs.List.{AllByRecursion}
-use Rattle.std.specs.Str.{bytes_eq}
 use Rattle.std.proofs.lemmas.Slice.Eq.{bytes_eq-Decides}
 use Rattle.chv_defs.specs.declared.scene.Asked.{Asked}
 use Rattle.chv_defs.specs.declared.scene.Asked.TheVariants as asked
-use Rattle.chv_defs.specs.declared.control.ControlCall.{ControlCall}
 use Rattle.chv_defs.specs.declared.control.ControlCall.TheVariants as call
 use Rattle.chv_defs.specs.DefaultConfig.{default_config}
 use Rattle.chv_defs.specs.SceneText.{request_line, session_section}
 use Rattle.chv_defs.specs.Routes.{call_of}
-use Rattle.chv_defs.specs.ScenarioText.{IsPlayable, IsScenario}
-use Rattle.chv_top.specs.Request.{asked_of, line_of, call_made, IsSession}
+use Rattle.chv_defs.specs.ScenarioText.{IsScenario}
+use Rattle.chv_top.specs.Request.{asked_of, line_of, IsSession}
 use Rattle.chv_top.specs.declared.request.Request.{Request}
 use Rattle.chv_top.specs.declared.request.Request.TheVariants.{Ping, Info, Create}
 

@@ -1,5 +1,5 @@
 -- Texts of traces from their parts.
-use Rattle.std.proofs.Common.{◌≡◌, ℕ, List, [], ◌∷◌, ◌++◌, length, flat_map, decimal, codes, Result, Ok, Err, IfOk, refl, sym, ◌∙◌, ap, subst, append_assoc}
+use Rattle.std.proofs.Common.{◌≡◌, ℕ, List, [], ◌∷◌, ◌++◌, length, flat_map, decimal, codes, Result, Ok, Err, IfOk, sym, ◌∙◌, ap, append_assoc}
 use Rattle.std.proofs.lemmas.List.{append-nil}
 use Rattle.chv_defs.specs.ScriptText.{field}
 use Rattle.chv_defs.specs.TraceText.{control_line, session_part, trace_text}

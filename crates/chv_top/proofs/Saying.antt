@@ -1,17 +1,16 @@
 -- What is said of a run from what was read and written.
-use Rattle.std.proofs.Common.{◌≡◌, ◌++◌, ◌∷◌, [], ℕ, List, map, Option, refl, sym, ◌∙◌, ap, subst, ⊎_elim, inl, inr, ◌⊎◌}
+use Rattle.std.proofs.Common.{◌≡◌, ◌++◌, ◌∷◌, [], ℕ, List, map, Option, refl, sym, ◌∙◌, ap, subst, ⊎_elim, inl, inr}
 use Rattle.chv_defs.specs.declared.control.ControlCall.TheVariants as call
 use Rattle.chv_defs.specs.declared.machine.Machine.{Machine}
 use Rattle.chv_defs.specs.declared.rule.Reason.TheVariants.{NotBuilt}
 use Rattle.chv_defs.specs.declared.trace.Trace.{Trace}
 use Rattle.chv_defs.specs.LegalControl.{IsLegal, calls_by}
-use Rattle.chv_defs.specs.Outside.{Rose, Gains, GainsPart}
+use Rattle.chv_defs.specs.Outside.{Rose, Gains}
 use Rattle.chv_defs.specs.ProgramText.{read_fault_line, scene_fault_line}
-use Rattle.chv_defs.specs.Schedule.{schedule, calls_of}
-use Rattle.chv_defs.specs.TraceText.{trace_text}
-use Rattle.chv_top.specs.Outcome.{IsPlayed, IsNoScenario, IsPartOfOwed}
+use Rattle.chv_defs.specs.Schedule.{schedule}
+use Rattle.chv_top.specs.Outcome.{IsPlayed, IsNoScenario}
 use Rattle.chv_top.specs.Played.{played}
-use Rattle.chv_top.specs.Request.{asked_of, call_made}
+use Rattle.chv_top.specs.Request.{asked_of}
 use Rattle.chv_top.specs.Stop.{IsTraceOf, Writes, Says}
 use Rattle.chv_top.specs.declared.request.Request.{Request}
 use Rattle.chv_top.specs.declared.status.Status.{Status}

@@ -1,11 +1,10 @@
 -- A scenario is shorter than what is read of the input at most, so that it is read whole.
-use Rattle.std.proofs.Common.{◌≡◌, ◌≤◌, ◌<◌, ◌+◌, ◌*◌, ◌⊎◌, ℕ, List, [], ◌∷◌, ◌++◌, length, map, flat_map, codes, Option, None, Some, refl, sym, ◌∙◌, ap, subst, arith, lit≤, length-append, ⊎_elim}
-use Rattle.std.proofs.Math.Nat.{eq-or-lt_of_le}
+use Rattle.std.proofs.Common.{◌≡◌, ◌≤◌, ◌<◌, ◌+◌, ◌*◌, ℕ, List, [], ◌∷◌, ◌++◌, length, map, flat_map, codes, Option, None, Some, sym, ◌∙◌, ap, subst, arith, lit≤, length-append}
 use Rattle.std.proofs.lemmas.List.{append-nil}
 use Rattle.chv_defs.specs.declared.scene.Asked.{Asked}
 use Rattle.chv_defs.specs.SceneText.{session_section}
 use Rattle.chv_defs.specs.ScenarioText.{IsScenario}
-use Rattle.chv_top.specs.Request.{asked_of, line_of, IsSession}
+use Rattle.chv_top.specs.Request.{asked_of, line_of}
 use Rattle.chv_top.specs.Taken.{HasRead}
 use Rattle.chv_top.specs.Outcome.{IsRead, IsNoScenario}
 use Rattle.chv_top.specs.declared.request.Request.{Request}

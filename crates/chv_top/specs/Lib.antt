@@ -1,5 +1,4 @@
 pub mod Built
-pub mod Fields
 pub mod Head
 pub mod Outcome
 pub mod Played

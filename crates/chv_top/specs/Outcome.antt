@@ -1,5 +1,5 @@
 -- What each status of the program says of a run.
-use Rattle.std.specs.Prelude.{◌≡◌, ◌≤◌, ◌⊎◌, ℕ, length, List, [], ◌∷◌, ◌++◌, Option, None, Some, IfSome}
+use Rattle.std.specs.Prelude.{◌≡◌, ◌≤◌, ◌⊎◌, ℕ, length, List, [], ◌∷◌, ◌++◌, Option, Some, IfSome}
 use Rattle.chv_defs.specs.declared.control.ControlCall.TheVariants as call
 use Rattle.chv_defs.specs.declared.machine.Machine.{Machine}
 use Rattle.chv_defs.specs.declared.rule.Reason.TheVariants.{NotBuilt}

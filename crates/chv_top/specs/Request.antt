@@ -1,5 +1,5 @@
 -- The requests that are read so far: the lines that ask for them, and the calls that they make.
-use Rattle.std.specs.Prelude.{◌≡◌, ◌≤◌, ℕ, List, [], ◌∷◌, ◌++◌, length, flat_map, codes, Option, None, Some}
+use Rattle.std.specs.Prelude.{◌≡◌, ◌≤◌, ℕ, List, ◌++◌, length, flat_map, codes, Some}
 use Rattle.chv_defs.specs.declared.scene.Asked.{Asked}
 use Rattle.chv_defs.specs.declared.scene.Asked.TheVariants as asked
 use Rattle.chv_defs.specs.declared.control.ControlCall.{ControlCall}

@@ -1,5 +1,5 @@
 -- Why nothing was played, and what each status says of a run that plays.
-use Rattle.std.specs.Prelude.{◌≡◌, ◌≤◌, ◌⊎◌, ℕ, List, map, Option}
+use Rattle.std.specs.Prelude.{◌≡◌, ◌⊎◌, ℕ, List, map, Option}
 use Rattle.chv_defs.specs.declared.rule.Reason.TheVariants.{NotBuilt}
 use Rattle.chv_defs.specs.Outside.{Rose, Gains, GainsPart}
 use Rattle.chv_defs.specs.ProgramText.{read_fault_line, scene_fault_line}

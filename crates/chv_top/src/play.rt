@@ -25,7 +25,7 @@ pub fn play(alloc: Global, requests: &[Request]) -> Result<Trace, AllocError>
 {
     let mut control = no_machine(alloc)?;
     let mut asked = String::new(alloc);
-    let mut replied = String::new(alloc);
+    let mut replied = Vec::new(alloc);
     for request in requests {
         play_request(alloc, &mut control, *request, &mut asked, &mut replied)?;
     }
@@ -49,21 +49,21 @@ fn play_request(
     control: &mut Control,
     request: Request,
     asked: &mut String,
-    replied: &mut String,
+    replied: &mut Vec<u8>,
 ) -> Result<(), AllocError>
     ensures state { OnOk result (control.new.machine
         ≡ after control.old.machine 1 (call_made request) (reply_to control.old.machine (call_made request))) }
     ensures history { OnOk result (control.new.history
         ≡ control.old.history ++ entry_of control.old.machine 1 (call_made request) ∷ []) }
     ensures asked { OnOk result (string_bytes asked.new ≡ string_bytes asked.old ++ request_bytes (asked_of request)) }
-    ensures replied { OnOk result (string_bytes replied.new
-        ≡ string_bytes replied.old ++ reply_of (entry_of control.old.machine 1 (call_made request))) }
+    ensures replied { OnOk result (replied.new.items
+        ≡ replied.old.items ++ reply_of (entry_of control.old.machine 1 (call_made request))) }
 {
     asked.push_str(request.bytes())?;
     let call = request.call(alloc);
     let reply = control.apply(u32::from(SESSION), &call)?;
     let bytes = reply_bytes(alloc, &call, &reply)?;
-    replied.push_str(bytes.as_str())
+    replied.extend_from_slice(bytes.as_slice())
 }
 
 // The trace of the session, which has ended.
@@ -71,7 +71,7 @@ fn trace_of(
     alloc: Global,
     control: Control,
     asked: String,
-    replied: String,
+    replied: Vec<u8>,
 ) -> Result<Trace, AllocError>
     ensures { IfOk result (λ trace. trace ≡ record {
       disks = [];
@@ -82,7 +82,7 @@ fn trace_of(
         session = 1;
         log = record {
           asked = string_bytes asked;
-          replied = string_bytes replied;
+          replied = replied.items;
           end = session.Ended;
         };
       } ∷ [];
@@ -93,7 +93,7 @@ fn trace_of(
         session: SESSION,
         log: SessionLog {
             asked: Bytes::new(asked.into_bytes()),
-            replied: Bytes::new(replied.into_bytes()),
+            replied: Bytes::new(replied),
             end: SessionEnd::Ended,
         },
     })?;

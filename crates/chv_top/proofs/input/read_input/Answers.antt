@@ -1,5 +1,4 @@
 use native.Mathlib.Omega.{arith}
-use Rattle.std.proofs.Common.{ℕ, ◌≤◌, ◌+◌, ◌-◌, length}
 use Rattle.chv_top.proofs.Taking.{takes_both}
 use Rattle.chv_top.proofs.input.read_input.Goals as goal
 

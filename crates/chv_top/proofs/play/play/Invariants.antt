@@ -8,5 +8,5 @@ abbrev pub invariant-loop-request : goal.invariant-loop-request
 invariant-loop-request l = record {
   history : l.control.history ++ entries_with_bye l.control.machine (drop l.request-index l.requests) ≡ entries_with_bye empty_machine l.requests;
   asked : string_bytes l.asked ++ bytes_asked (drop l.request-index l.requests) ≡ bytes_asked l.requests;
-  replied : string_bytes l.replied ++ bytes_replied l.control.machine (drop l.request-index l.requests) ≡ bytes_replied empty_machine l.requests;
+  replied : l.replied.items ++ bytes_replied l.control.machine (drop l.request-index l.requests) ≡ bytes_replied empty_machine l.requests;
 }

@@ -1,4 +1,4 @@
-use Rattle.std.proofs.Common.{◌≡◌, subst, sym, ◌∙◌, ap}
+use Rattle.std.proofs.Common.{subst, sym, ◌∙◌, ap}
 use Rattle.chv_defs.specs.ApiStep.{reply_to}
 use Rattle.chv_defs.specs.declared.control.ControlReply.{ControlReply}
 use Rattle.chv_top.specs.Built.{IsBuiltReply}

@@ -1,4 +1,4 @@
-use Rattle.std.proofs.Common.{◌≡◌, ◌++◌, string_bytes, ap, ◌∙◌, flat_map}
+use Rattle.std.proofs.Common.{◌++◌, string_bytes, ap, ◌∙◌, flat_map}
 use Rattle.chv_defs.specs.TraceText.{control_line, session_part}
 use Rattle.chv_top.specs.Head.{head_text}
 use Rattle.chv_top.proofs.Printed.{trace_same}

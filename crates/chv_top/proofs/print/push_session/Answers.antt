@@ -1,4 +1,4 @@
-use Rattle.std.proofs.Common.{◌≡◌, ◌++◌, ◌∷◌, codes, string_bytes, decimal, ap, ◌∙◌}
+use Rattle.std.proofs.Common.{◌++◌, ◌∷◌, codes, string_bytes, decimal, ap, ◌∙◌}
 use Rattle.chv_defs.specs.TraceText.{pairs_or_dash}
 use Rattle.chv_top.proofs.Printed.{session_same}
 use Rattle.chv_top.proofs.print.push_session.Goals as goal

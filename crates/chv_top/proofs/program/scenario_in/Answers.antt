@@ -1,4 +1,4 @@
-use Rattle.std.proofs.Common.{◌≡◌, List, ℕ, subst, map}
+use Rattle.std.proofs.Common.{List, ℕ, subst, map}
 use Rattle.chv_defs.specs.ScenarioText.{IsScenario}
 use Rattle.chv_defs.specs.declared.scene.Asked.{Asked}
 use Rattle.chv_top.specs.Request.{asked_of}

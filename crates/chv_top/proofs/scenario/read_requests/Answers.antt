@@ -1,8 +1,6 @@
-use Rattle.std.proofs.Common.{◌≡◌, ◌≤◌, flat_map, ◌++◌, ◌∷◌, [], List, length, sym, ◌∙◌, ap, arith, length-append, codes}
+use Rattle.std.proofs.Common.{◌≡◌, flat_map, ◌++◌, ◌∷◌, [], sym, ◌∙◌, ap, arith}
 use Rattle.std.proofs.lemmas.Grind.{common_steps}
-use Rattle.std.proofs.lemmas.Slice.Eq.{bytes_eq-Decides}
 use Rattle.chv_top.specs.Request.{line_of}
-use Rattle.chv_top.specs.declared.request.Request.{Request}
 use Rattle.chv_top.proofs.Lines.{lines-push, others-step, none-left}
 use Rattle.chv_top.proofs.scenario.read_requests.Goals as goal
 
