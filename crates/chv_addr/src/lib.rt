@@ -1,0 +1,10 @@
+//! The guest's addresses: RAM of zones, the devices' windows, and what is neither.
+#![tactic(auto)]
+
+mod map;
+mod place;
+mod run;
+
+pub use map::AddrMap;
+pub use place::Place;
+pub use run::Run;
