@@ -1,6 +1,6 @@
 -- The guest's addresses: which blocks of which zone lie where, where the devices' windows lie, and in what a stretch of
 -- bytes lies. The layout is this project's own.
-use Rattle.std.specs.Prelude.{ℕ, ◌+◌, ◌-◌, ◌*◌, ◌/◌, ◌%◌, ◌^◌, ◌≤◌, ◌<◌, ◌==◌, ◌&&◌, ◌||◌, Bool, nat_lt, nat_le, if◌then◌else◌, List, [], ◌∷◌, ◌++◌, length, find, count_by, sum_by, Option, None, Some, min, max}
+use Rattle.std.specs.Prelude.{ℕ, ◌+◌, ◌-◌, ◌*◌, ◌/◌, ◌%◌, ◌^◌, ◌≤◌, ◌<◌, ◌==◌, ◌&&◌, ◌||◌, Bool, nat_lt, nat_le, if◌then◌else◌, List, [], ◌∷◌, ◌++◌, length, find, count_by, sum_by, Option, None, Some, All, min, max}
 use Rattle.std.specs.List.{list_all, range_with_len}
 use Rattle.chv_defs.specs.declared.config.ZoneConfig.{ZoneConfig}
 use Rattle.chv_defs.specs.declared.machine.Region.{Region}
@@ -176,3 +176,12 @@ has_block zone block run = run.zone == zone && nat_le run.first block && nat_lt 
 -- how many addresses a block of a zone has
 abbrev pub addresses_of : List Run → ℕ → ℕ → ℕ
 addresses_of runs zone block = count_by (has_block zone block) runs
+
+-- each run's blocks have numbers below 2^32
+abbrev pub AreNumbered : List Run → Type 0
+AreNumbered runs = All (λ run. run.first + run.count ≤ 2 ^ 32) runs
+
+-- what the runs of a map are: in order from address 0 on, with numbers of blocks that a `u32` holds
+pub record IsMap (runs : List Run) : Type 0 where
+  pub order : AreInOrder 0 runs
+  pub numbered : AreNumbered runs

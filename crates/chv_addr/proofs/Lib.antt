@@ -1,0 +1,3 @@
+pub mod RunSearch
+pub mod Slots
+pub mod Zones
