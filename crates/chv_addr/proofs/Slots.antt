@@ -26,13 +26,13 @@ find-inside : (k n addr : ℕ) → window_start k ≤ addr → addr < window_sta
 find-inside k zero addr low high = absurd (omega arith)
 find-inside k (suc n) addr low high = elim (cases_lt addr (window_start (k + 1))) [
   | inl here ↦
-    let yes : holds (window_start k) window_bytes addr ≡ true = grind (arith, nat_tests) in
-    let same : k ≡ (addr - 0xe0000000) / window_bytes = omega arith in
-    rw yes (ap Some same)
+      let yes : holds (window_start k) window_bytes addr ≡ true = grind (arith, nat_tests) in
+      let same : k ≡ (addr - 0xe0000000) / window_bytes = omega arith in
+      rw yes (ap Some same)
   | inr later ↦
-    let no : holds (window_start k) window_bytes addr ≡ false = grind (arith, nat_tests) in
-    let end : addr < window_start (k + 1 + n) = omega arith in
-    rw no (find-inside (k + 1) n addr later end)
+      let no : holds (window_start k) window_bytes addr ≡ false = grind (arith, nat_tests) in
+      let end : addr < window_start (k + 1 + n) = omega arith in
+      rw no (find-inside (k + 1) n addr later end)
 ]
 
 pub slot_at-below : (addr : ℕ) → addr < window_start 1 → slot_at addr ≡ None
@@ -68,15 +68,15 @@ all-hit : (k n addr end : ℕ) → 0 < n → addr < end → window_start k < end
 all-hit k zero addr end some h low high = absurd (omega arith)
 all-hit k (suc n) addr end some h low high = elim (cases_lt addr (window_start (k + 1))) [
   | inl here ↦
-    let no : is_apart (window_start k) window_bytes addr end ≡ false = grind (arith, nat_tests) in
-    rw no refl
+      let no : is_apart (window_start k) window_bytes addr end ≡ false = grind (arith, nat_tests) in
+      rw no refl
   | inr later ↦
-    let behind : window_start k + window_bytes ≤ addr = omega arith in
-    let yes : is_apart (window_start k) window_bytes addr end ≡ true = grind (arith, nat_tests) in
-    let more : 0 < n = omega arith in
-    let start : window_start (k + 1) < end = omega arith in
-    let stop : addr < window_start (k + 1 + n) = omega arith in
-    rw yes (all-hit (k + 1) n addr end more h start stop)
+      let behind : window_start k + window_bytes ≤ addr = omega arith in
+      let yes : is_apart (window_start k) window_bytes addr end ≡ true = grind (arith, nat_tests) in
+      let more : 0 < n = omega arith in
+      let start : window_start (k + 1) < end = omega arith in
+      let stop : addr < window_start (k + 1 + n) = omega arith in
+      rw yes (all-hit (k + 1) n addr end more h start stop)
 ]
 
 pub no_window-below : (addr end : ℕ) → end ≤ window_start 1 → no_window addr end ≡ true
@@ -94,14 +94,14 @@ no_window-hit addr end some low high = all-hit 1 31 addr end (omega arith) some 
 pub touches : (addr last : ℕ) → addr ≤ last → addr < window_start 32 → nat_le (window_start 1) last ≡ not (no_window addr (last + 1))
 touches addr last order low = elim (cases_lt last (window_start 1)) [
   | inl before ↦
-    let no : nat_le (window_start 1) last ≡ false = grind (arith, nat_tests) in
-    let end : last + 1 ≤ window_start 1 = omega arith in
-    no ∙ sym (ap not (no_window-below addr (last + 1) end))
+      let no : nat_le (window_start 1) last ≡ false = grind (arith, nat_tests) in
+      let end : last + 1 ≤ window_start 1 = omega arith in
+      no ∙ sym (ap not (no_window-below addr (last + 1) end))
   | inr from ↦
-    let yes : nat_le (window_start 1) last ≡ true = grind (arith, nat_tests) in
-    let end : window_start 1 < last + 1 = omega arith in
-    let some : addr < last + 1 = omega arith in
-    yes ∙ sym (ap not (no_window-hit addr (last + 1) some end low))
+      let yes : nat_le (window_start 1) last ≡ true = grind (arith, nat_tests) in
+      let end : window_start 1 < last + 1 = omega arith in
+      let some : addr < last + 1 = omega arith in
+      yes ∙ sym (ap not (no_window-hit addr (last + 1) some end low))
 ]
 
 pub touches-not : (addr last : ℕ) → window_start 32 ≤ addr → nat_lt addr (window_start 32) ≡ not (no_window addr (last + 1))

@@ -8,7 +8,7 @@ use Rattle.std.proofs.lemmas.List.Elements.{All-cons, All-tail, All-append}
 use Rattle.std.proofs.lemmas.List.Sums.{AllPass-from_list_all, sum_by-cons}
 use Rattle.chv_defs.specs.declared.config.ZoneConfig.{ZoneConfig}
 use Rattle.chv_addr.specs.declared.run.Run.{Run}
-use Rattle.chv_addr.specs.AddressMap.{AreInOrder, AreNumbered, IsMap, below_hole, block_bytes, blocks_in, boot_end, boot_runs, hole_start, hole_end, is_clear, is_within_limits, map_of, past_hole, plug_runs, region_start, run_bytes, with_run}
+use Rattle.chv_addr.specs.AddressMap.{AreInOrder, AreNumbered, IsMap, below_hole, block_bytes, blocks_in, boot_end, boot_runs, hole_start, hole_end, is_clear, is_within_limits, map_of, past_hole, plug_runs, region_start, regions_from, run_bytes, with_run}
 
 -- ---- limits
 
@@ -72,8 +72,8 @@ past-mono : (a b : ℕ) → a ≤ b → past_hole a ≤ past_hole b
 past-mono a b h = elim (cases_lt a hole_start) [
   | inl low ↦ omega (arith, past-low a low, past-ge b)
   | inr high ↦
-    let high' : hole_start ≤ b = omega arith in
-    omega (arith, past-high a high, past-high b high')
+      let high' : hole_start ≤ b = omega arith in
+      omega (arith, past-high a high, past-high b high')
 ]
 
 -- ---- boot memory
@@ -203,7 +203,7 @@ map-clear zones = All-append (λ run. is_clear run ≡ true) (boot_runs 0 0 zone
 pub map-is : (zones : List ZoneConfig) → is_within_limits zones ≡ true → IsMap (map_of zones).runs
 map-is zones h = record {
   order = map-order zones;
-  numbered = All-append (λ run. run.first + run.count ≤ 2 ^ 32) (boot_runs 0 0 zones) (plug_runs 0 (boot_end zones) zones) (boot-numbered 0 0 zones (small-zones zones h)) (plug-numbered 0 (boot_end zones) zones (small-zones zones h))
+  numbered = All-append (λ run. run.first + run.count ≤ 2 ^ 32) (boot_runs 0 0 zones) (plug_runs 0 (boot_end zones) zones) (boot-numbered 0 0 zones (small-zones zones h)) (plug-numbered 0 (boot_end zones) zones (small-zones zones h));
 }
 
 -- the map as it is built
@@ -211,3 +211,8 @@ pub map-built : (zones given : List ZoneConfig) (boot runs : List Run) (end : �
 map-built zones given boot runs end e f g h limits =
     let same : runs ≡ (map_of given).runs = h ∙ ap (λ l. l ++ plug_runs 0 end given) f ∙ ap (λ n. boot_runs 0 0 given ++ plug_runs 0 n given) g in
     subst IsMap (sym (same ∙ ap (λ l. (map_of l).runs) e)) (map-is zones limits)
+
+-- each zone has a region
+pub length-regions : (before : ℕ) (zones : List ZoneConfig) → length (regions_from before zones) ≡ length zones
+length-regions before [] = refl
+length-regions before (config ∷ configs) = ap suc (length-regions (region_start before + config.hotplug) configs)

@@ -185,3 +185,11 @@ AreNumbered runs = All (λ run. run.first + run.count ≤ 2 ^ 32) runs
 pub record IsMap (runs : List Run) : Type 0 where
   pub order : AreInOrder 0 runs
   pub numbered : AreNumbered runs
+
+-- how many runs and windows hold an address
+abbrev pub holders : List Run → ℕ → ℕ
+holders runs addr = count_by (λ run. holds run.addr (run_bytes run) addr) runs + count_by (λ slot. holds (window_start slot) window_bytes addr) slots
+
+-- the blocks of a zone, boot blocks first
+abbrev pub blocks_of : ZoneConfig → ℕ
+blocks_of config = blocks_in config.size + blocks_in config.hotplug

@@ -42,11 +42,7 @@ pub fn boot_end(zones: &[ZoneConfig]) -> u64
 }
 
 /// Puts the runs of hotplug memory behind others. All before it ends at `end`.
-pub fn push_plug_runs(
-    runs: &mut Vec<Run>,
-    zones: &[ZoneConfig],
-    end: u64,
-) -> Result<(), AllocError>
+pub fn push_plug_runs(runs: &mut Vec<Run>, zones: &[ZoneConfig], end: u64) -> Result<(), AllocError>
     requires zones { is_within_limits zones.now ≡ true }
     requires end { end < 2 ^ 40 }
     ensures { OnOk result (runs.new.items ≡ runs.old.items ++ plug_runs 0 end zones.now) }

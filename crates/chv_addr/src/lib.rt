@@ -6,6 +6,8 @@ mod map;
 mod place;
 mod run;
 mod search;
+#[cfg(test)]
+mod tests;
 mod windows;
 
 pub use map::AddrMap;

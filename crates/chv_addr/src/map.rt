@@ -31,7 +31,8 @@ impl AddrMap {
     /// The map of a configuration's zones in effect.
     pub fn build(alloc: Global, checked: &Checked) -> Result<AddrMap, AllocError>
         requires { is_within_limits checked.now.zones ≡ true }
-        ensures { IfOk result (λ map. map ≡ map_of checked.now.zones) }
+        ensures value { IfOk result (λ map. map ≡ map_of checked.now.zones) }
+        ensures regions { IfOk result (λ map. length map.regions ≡ length checked.now.zones) }
     {
         let zones = checked.zones.as_slice();
         let mut runs = boot_runs(alloc, zones)?;
