@@ -1,6 +1,7 @@
 //! The guest's addresses: RAM of zones, the devices' windows, and what is neither.
 #![tactic(auto)]
 
+mod laws;
 mod layout;
 mod map;
 mod place;
@@ -10,6 +11,7 @@ mod search;
 mod tests;
 mod windows;
 
+pub use laws::{blocks_have_one_address, checked_zones_are_within_limits, intervals_never_overlap};
 pub use map::AddrMap;
 pub use place::Place;
 pub use run::Run;

@@ -1,7 +1,6 @@
-use Rattle.std.proofs.Common.{◌≡◌, ◌∙◌, refl, sym, ap, Some, None, true, false, arith}
+use Rattle.std.proofs.Common.{◌≡◌, ◌∙◌, refl, sym, Some, None, true, false, arith}
 use Rattle.std.specs.Prelude.{nat_le}
 use Rattle.std.proofs.lemmas.Bool.Decides.{nat_tests}
-use Rattle.chv_addr.specs.AddressMap.{run_at}
 use Rattle.chv_addr.proofs.RunSearch.{run_at-by}
 use Rattle.chv_addr.proofs.search.run_at.Goals as goal
 
