@@ -50,7 +50,7 @@ boot_runs zone before (config ∷ configs) =
     (with_run (record { zone = zone; first = low; count = count - low; addr = past_hole ((before + low) * block_bytes) })
     (boot_runs (zone + 1) (before + count) configs))
 
--- where boot memory ends
+-- where boot memory ends, or the hole's end where it reaches the hole's start
 abbrev pub boot_end : List ZoneConfig → ℕ
 boot_end zones = past_hole (sum_by (λ config. blocks_in config.size) zones * block_bytes)
 
@@ -109,7 +109,7 @@ window_start slot = 0xe0000000 + slot * window_bytes
 abbrev pub holds : ℕ → ℕ → ℕ → Bool
 holds start bytes addr = nat_le start addr && nat_lt addr (start + bytes)
 
--- whether an interval has none of the bytes from an address to before an end
+-- whether an interval that is not empty has none of the bytes from an address to before an end above it
 abbrev pub is_apart : ℕ → ℕ → ℕ → ℕ → Bool
 is_apart start bytes addr end = nat_le end start || nat_le (start + bytes) addr
 
@@ -173,7 +173,7 @@ AreInOrder from (run ∷ runs) = (from ≤ run.addr) × (0 < run.count) × AreIn
 abbrev pub has_block : ℕ → ℕ → Run → Bool
 has_block zone block run = run.zone == zone && nat_le run.first block && nat_lt block (run.first + run.count)
 
--- how many addresses a block of a zone has
+-- in how many runs a block of a zone stands; in each of them it has one address
 abbrev pub addresses_of : List Run → ℕ → ℕ → ℕ
 addresses_of runs zone block = count_by (has_block zone block) runs
 

@@ -17,7 +17,7 @@ pub fn blocks_have_one_address(zones: &[ZoneConfig], zone: usize)
 {}
 
 /// The zones of a checked configuration are few and small enough for an address map.
-pub fn checked_zones_are_within_limits(checked: &Checked)
+pub fn checked_zones_fit(checked: &Checked)
     requires { IsChecked checked.now }
     ensures { is_within_limits checked.now.zones ≡ true }
 {}

@@ -11,7 +11,7 @@ mod search;
 mod tests;
 mod windows;
 
-pub use laws::{blocks_have_one_address, checked_zones_are_within_limits, intervals_never_overlap};
+pub use laws::{blocks_have_one_address, checked_zones_fit, intervals_never_overlap};
 pub use map::AddrMap;
 pub use place::Place;
 pub use run::Run;

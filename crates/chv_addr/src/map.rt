@@ -18,7 +18,7 @@ pub struct AddrMap {
 }
 
 impl Model for AddrMap {
-    ghost use Rattle.chv_addr.specs.AddressMap.{AddressMap, AreInOrder, IsMap};
+    ghost use Rattle.chv_addr.specs.AddressMap.{AddressMap, IsMap};
 
     ghost Value = { AddressMap };
 
@@ -28,10 +28,12 @@ impl Model for AddrMap {
 }
 
 impl AddrMap {
-    /// The map of a configuration's zones in effect.
+    /// The map of a configuration's zones in effect, which those of a checked configuration fit. It fails only where
+    /// memory runs out.
     pub fn build(alloc: Global, checked: &Checked) -> Result<AddrMap, AllocError>
         requires { is_within_limits checked.now.zones ≡ true }
         ensures value { IfOk result (λ map. map ≡ map_of checked.now.zones) }
+        // There is a region for each zone.
         ensures regions { IfOk result (λ map. length map.regions ≡ length checked.now.zones) }
     {
         let zones = checked.zones.as_slice();
@@ -42,7 +44,7 @@ impl AddrMap {
         Ok(AddrMap { runs, regions })
     }
 
-    /// In what the `len` bytes from a guest address on lie.
+    /// In what the `len` bytes from a guest address on lie. It searches the runs by bisection.
     pub fn find(&self, addr: u64, len: u64) -> Place
         ensures { result ≡ place_of self.now addr len }
     {
