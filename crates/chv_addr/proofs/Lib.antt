@@ -1,0 +1,5 @@
+pub mod Limits
+pub mod MapLaws
+pub mod RunSearch
+pub mod Slots
+pub mod Zones

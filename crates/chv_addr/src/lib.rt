@@ -1,0 +1,17 @@
+//! The guest's addresses: RAM of zones, the devices' windows, and what is neither.
+#![tactic(auto)]
+
+mod laws;
+mod layout;
+mod map;
+mod place;
+mod run;
+mod search;
+#[cfg(test)]
+mod tests;
+mod windows;
+
+pub use laws::{blocks_have_one_address, checked_zones_fit, intervals_never_overlap};
+pub use map::AddrMap;
+pub use place::Place;
+pub use run::Run;

@@ -1,0 +1,75 @@
+// The search for a run.
+ghost use Rattle.std.specs.Prelude.{◌≡◌, ◌+◌, ◌-◌, ◌<◌, ◌≤◌, ◌^◌, not, nat_le, slice_get, true};
+ghost use Rattle.std.specs.List.{prefix_len};
+ghost use Rattle.chv_addr.specs.AddressMap.{AreInOrder, holds, no_ram, ram_place, run_at, run_bytes};
+ghost use Rattle.chv_addr.specs.Search.{next_run};
+
+use crate::layout::BLOCK_BYTES;
+use crate::{Place, Run};
+
+/// The run that holds an address.
+pub fn run_at(runs: &[Run], addr: u64) -> Option<Run>
+    requires { AreInOrder 0 runs.now }
+    ensures { result ≡ run_at runs.now addr }
+{
+    match next_run(runs, addr) {
+        Some(run) if run.addr <= addr => Some(run),
+        _ => None,
+    }
+}
+
+/// Whether some of the bytes from an address to the last one lie in RAM.
+pub fn touches_ram(runs: &[Run], addr: u64, last: u64) -> bool
+    requires { AreInOrder 0 runs.now }
+    ensures { result ≡ not (no_ram runs.now addr (last + 1)) }
+{
+    match next_run(runs, addr) {
+        Some(run) => run.addr <= last,
+        None => false,
+    }
+}
+
+/// The place of bytes of which the first lies in a run.
+pub fn ram_place(run: Run, addr: u64, len: u64) -> Place
+    requires held { holds run.addr (run_bytes run) addr ≡ true }
+    requires small { run.first + run.count ≤ 2 ^ 32 }
+    ensures { result ≡ ram_place run addr len }
+{
+    let from = addr - run.addr;
+    let offset = from % BLOCK_BYTES;
+    if len <= BLOCK_BYTES - offset {
+        Place::Ram {
+            zone: run.zone,
+            block: run.first + (from / BLOCK_BYTES) as u32,
+            offset: offset as u32,
+        }
+    } else {
+        Place::Crosses
+    }
+}
+
+// The first run that ends above an address.
+fn next_run(runs: &[Run], addr: u64) -> Option<Run>
+    requires { AreInOrder 0 runs.now }
+    ensures { result ≡ next_run runs.now addr }
+{
+    match runs.get(count_ended(runs, addr)) {
+        Some(run) => Some(*run),
+        None => None,
+    }
+}
+
+// How many runs end at an address or below it. They are the first ones.
+fn count_ended(runs: &[Run], addr: u64) -> usize
+    requires { AreInOrder 0 runs.now }
+    ensures { result ≡ prefix_len (λ run. nat_le (run.addr + run_bytes run) addr) runs.now }
+{
+    runs.partition_point(|run| ends_by(run, addr))
+}
+
+// Whether a run ends at an address or below it.
+fn ends_by(run: &Run, addr: u64) -> bool
+    ensures { result ≡ nat_le (run.now.addr + run_bytes run.now) addr }
+{
+    run.addr <= addr && u64::from(run.count) * BLOCK_BYTES <= addr - run.addr
+}
