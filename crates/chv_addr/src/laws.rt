@@ -1,6 +1,6 @@
 // Laws of the definitions.
-ghost use Rattle.std.specs.Prelude.{◌≡◌, ℕ, ◌+◌, ◌<◌, ◌≤◌, Some, length, slice_get, true};
-ghost use Rattle.chv_addr.specs.AddressMap.{addresses_of, blocks_of, holders, is_within_limits, map_of};
+ghost use Rattle.std.specs.Prelude.{◌≡◌, ℕ, ◌<◌, ◌≤◌, Some, slice_get, true};
+ghost use Rattle.chv_defs.specs.AddressMap.{addresses_of, blocks_of, holders, is_within_limits, map_of};
 ghost use Rattle.chv_defs.specs.ConfigRules.{IsChecked};
 
 use chv_defs::{Checked, ZoneConfig};
@@ -11,9 +11,8 @@ pub fn intervals_never_overlap(zones: &[ZoneConfig])
 {}
 
 /// Every block of a zone has exactly one address: one run has it.
-pub fn blocks_have_one_address(zones: &[ZoneConfig], zone: usize)
-    requires { zone < length zones.now }
-    ensures { (config : ZoneConfig) (block : ℕ) → slice_get zones.now zone ≡ Some config → block < blocks_of config → addresses_of (map_of zones.now).runs zone block ≡ 1 }
+pub fn blocks_have_one_address(zones: &[ZoneConfig])
+    ensures { (zone : ℕ) (config : ZoneConfig) (block : ℕ) → slice_get zones.now zone ≡ Some config → block < blocks_of config → addresses_of (map_of zones.now).runs zone block ≡ 1 }
 {}
 
 /// The zones of a checked configuration are few and small enough for an address map.

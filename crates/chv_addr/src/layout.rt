@@ -1,9 +1,8 @@
 // Where memory lies: boot memory with a hole below 4 GiB, and the hotplug regions above it.
 ghost use Rattle.std.specs.Prelude.{◌≡◌, ◌+◌, ◌*◌, ◌<◌, ◌≤◌, ◌^◌, ◌++◌, [], ◌∷◌, IfOk, OnOk, length, sum_by, true};
-ghost use Rattle.chv_addr.specs.AddressMap.{below_hole, blocks_in, boot_end, boot_runs, is_within_limits, past_hole, plug_runs, region_start, regions_from, with_run};
+ghost use Rattle.chv_defs.specs.AddressMap.{below_hole, blocks_in, boot_end, boot_runs, is_within_limits, past_hole, plug_runs, region_start, regions_from, with_run};
 
-use crate::Run;
-use chv_defs::{Region, ZoneConfig};
+use chv_defs::{Region, Run, ZoneConfig};
 use std::alloc::{AllocError, Global};
 
 /// The bytes of a block.

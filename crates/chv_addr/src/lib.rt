@@ -4,8 +4,6 @@
 mod laws;
 mod layout;
 mod map;
-mod place;
-mod run;
 mod search;
 #[cfg(test)]
 mod tests;
@@ -13,5 +11,3 @@ mod windows;
 
 pub use laws::{blocks_have_one_address, checked_zones_fit, intervals_never_overlap};
 pub use map::AddrMap;
-pub use place::Place;
-pub use run::Run;

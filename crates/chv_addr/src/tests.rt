@@ -1,10 +1,10 @@
 // Places at the edges of runs, blocks and windows.
 ghost use Rattle.std.specs.Prelude.{◌≡◌, ◌+◌, ◌*◌, ◌^◌, nat_le};
 ghost use Rattle.std.specs.List.{list_all};
-ghost use Rattle.chv_addr.specs.AddressMap.{is_within_limits};
+ghost use Rattle.chv_defs.specs.AddressMap.{is_within_limits};
 
-use crate::{AddrMap, Place};
-use chv_defs::{Checked, CpuConfig, Hotplug, MemConfig, Region, Row, Text, VmConfig, ZoneConfig};
+use crate::AddrMap;
+use chv_defs::{Checked, CpuConfig, Hotplug, MemConfig, Place, Region, Row, Text, VmConfig, ZoneConfig};
 use std::alloc::{AllocError, Global};
 use std::test::Fail;
 

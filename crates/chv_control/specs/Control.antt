@@ -13,7 +13,7 @@ pub record Controlled : Type 0 where
   pub history : List ControlEntry
   pub sessions : ℕ
 
--- the sizes of a configuration's zones fit their sum
+-- the sizes of a configuration's zones sum below 2^64
 abbrev pub HasSmallZones : Option Checked → Type 0
 HasSmallZones None = Unit {0}
 HasSmallZones (Some checked) = sum_by (λ (zone : ZoneConfig). zone.size) checked.zones < 2 ^ 64

@@ -1,14 +1,19 @@
+pub mod AddressMap
 pub mod ApiStep
+pub mod BankState
 pub mod BlockSets
 pub mod ConfigRules
 pub mod ControlStep
 pub mod DefaultConfig
+pub mod Desks
 pub mod Disks
 pub mod FailingCalls
 pub mod HttpFront
 pub mod Id
 pub mod JsonBodies
 pub mod JsonTexts
+pub mod LastByte
+pub mod LegalBank
 pub mod LegalControl
 pub mod Links
 pub mod Machine
@@ -26,6 +31,7 @@ pub mod ScenarioText
 pub mod SceneText
 pub mod Schedule
 pub mod ScriptText
+pub mod SessionBytes
 pub mod Shown
 pub mod StreamCut
 pub mod TraceText

@@ -1,6 +1,6 @@
--- What a connection means besides what it has left and what was put into it: the bytes that it gave, told or not, and
--- whether it was closed.
-use Rattle.std.specs.Prelude.{◌≡◌, ◌≤◌, ℕ, ◌++◌, List, [], take, Bool, false, Option, None, Some, IfSome, Result, Ok, Err}
+-- What a connection means besides what it has left and what was put into it: the bytes that it gave and the most that
+-- one read gives, each told or not, and whether it was closed.
+use Rattle.std.specs.Prelude.{◌≡◌, ◌≤◌, ℕ, ◌++◌, min, ⊤, List, [], length, take, Bool, false, Option, None, Some, IfSome, Result, Ok, Err}
 
 -- A read adds its bytes to those that were given, and a failed one adds none. No call changes whether it is told.
 abbrev pub Gives : {E : Type 0} → Option (List ℕ) → Option (List ℕ) → List ℕ → Result ℕ E → Type 0
@@ -23,6 +23,16 @@ pub record WriteLeaves (left left_after given given_after : Option (List ℕ)) (
   pub given_stays : given_after ≡ given
   pub closed_stays : closed_after ≡ closed
   pub later : faults ≤ faults_after
+
+-- A connection that tells what it has left, and the most that one of its reads gives, gives in a read as much as fits.
+abbrev pub GivesMost : {E : Type 0} → Option (List ℕ) → Option ℕ → ℕ → Result ℕ E → Type 0
+GivesMost (Some left) (Some most) room (Ok n) = n ≡ min (min most room) (length left)
+GivesMost _ _ room _ = ⊤
+
+-- What a read into a buffer of so many bytes has to do with the most that a read gives, which no call changes.
+pub record Fills {E : Type 0} (left : Option (List ℕ)) (most most_after : Option ℕ) (room : ℕ) (result : Result ℕ E) : Type 0 where
+  pub most_stays : most_after ≡ most
+  pub full : GivesMost left most room result
 
 -- A connection that was just accepted gave nothing, nothing was put into it, and it is not closed.
 pub record IsNew (given put : Option (List ℕ)) (closed : Bool) : Type 0 where

@@ -1,5 +1,5 @@
--- The words of the program's command line, and the lines that it writes where it does nothing else. Both are this project's
--- own.
+-- The words of the program's command line, and the line that it writes with each status that has one. Both are this
+-- project's own.
 use Rattle.std.specs.Prelude.{ℕ, List, [], ◌∷◌, ◌++◌, codes}
 use Rattle.chv_defs.specs.Numbers.{dec_text}
 use Rattle.chv_defs.specs.Reasons.{reason_name}

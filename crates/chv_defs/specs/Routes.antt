@@ -1,12 +1,18 @@
 -- The routes of the API (Cloud Hypervisor REST API v1; the bodies of `vmm.ping` and of a refusal are this project's own):
--- which control call a request makes, and which reply the answer to it is. Built so far are `vmm.ping`, `vm.info`, and `vm.create` with the body `{}`.
-use Rattle.std.specs.Prelude.{ℕ, ◌&&◌, false, List, ◌++◌, codes, Option, None, Some, if◌then◌else◌}
+-- which control call a request makes, and which reply the answer to it is.
+use Rattle.std.specs.Prelude.{ℕ, ◌&&◌, ◌==◌, Bool, false, List, [], ◌∷◌, ◌++◌, length, take, drop, codes, Option, None, Some, Result, Ok, Err, if◌then◌else◌}
 use Rattle.std.specs.Str.{bytes_eq}
+use Rattle.chv_defs.specs.ConfigRules.{last_component}
+use Rattle.chv_defs.specs.Name.{is_name}
+use Rattle.chv_defs.specs.JsonBodies.{◌>>=◌, config_of, disk_of, resize_of, zone_of, text_of}
 use Rattle.chv_defs.specs.DefaultConfig.{default_config}
 use Rattle.chv_defs.specs.JsonTexts.{info_text, counters_text, device_text}
 use Rattle.chv_defs.specs.Rules.{rule_name, rule_status}
 use Rattle.chv_defs.specs.Replies.{reply_of_status}
 use Rattle.chv_defs.specs.declared.rule.Rule.{Rule}
+use Rattle.chv_defs.specs.declared.rule.Rule.TheVariants.{NoRoute, BadName}
+use Rattle.chv_defs.specs.declared.request.Request.{Request}
+use Rattle.chv_defs.specs.declared.control.Goal.TheVariants.{Pause, Shutdown, Delete}
 use Rattle.chv_defs.specs.declared.control.ControlCall.{ControlCall}
 use Rattle.chv_defs.specs.declared.control.ControlCall.TheVariants as call
 use Rattle.chv_defs.specs.declared.control.ControlReply.{ControlReply}
@@ -15,7 +21,63 @@ use Rattle.chv_defs.specs.declared.control.ControlEntry.{ControlEntry}
 use Rattle.chv_defs.specs.declared.scene.Asked.{Asked}
 use Rattle.chv_defs.specs.declared.scene.Asked.TheVariants as asked
 
--- the control call that a request of a scenario makes, where its route is built
+-- ---- requests
+
+-- what stands before a route's name in each target
+unfoldable pub target_front : List ℕ
+target_front = codes "/api/v1/"
+
+-- the name of the route that a target asks for: what stands behind `/api/v1/`
+abbrev pub route_name : List ℕ → Option (List ℕ)
+route_name target = if bytes_eq (take (length target_front) target) target_front then Some (drop (length target_front) target) else None
+
+-- a URL without the one `/` at its end, where it has one
+abbrev pub without_final_slash : List ℕ → List ℕ
+without_final_slash [] = []
+without_final_slash (b ∷ []) = if b == 47 then [] else b ∷ []
+without_final_slash (b ∷ c ∷ more) = b ∷ without_final_slash (c ∷ more)
+
+-- the name of the snapshot that a URL names: its last component, a final `/` being dropped first
+abbrev pub snapshot_name : List ℕ → Result (List ℕ) Rule
+snapshot_name url = let name = last_component (without_final_slash url) in if is_name name then Ok name else Err BadName
+
+-- the calls of the routes with GET
+abbrev pub get_call : List ℕ → Result ControlCall Rule
+get_call name =
+    if bytes_eq name (codes "vmm.ping") then Ok call.Ping else (
+    if bytes_eq name (codes "vm.info") then Ok call.Info else (
+    if bytes_eq name (codes "vm.counters") then Ok call.Counters else Err NoRoute))
+
+-- the calls of the routes with PUT; a route that needs no body ignores it
+abbrev pub put_call : List ℕ → List ℕ → Result ControlCall Rule
+put_call name body =
+    if bytes_eq name (codes "vm.create") then config_of body >>= (λ config. Ok (call.Create config)) else (
+    if bytes_eq name (codes "vm.delete") then Ok (call.Begin Delete) else (
+    if bytes_eq name (codes "vm.boot") then Ok call.Boot else (
+    if bytes_eq name (codes "vm.shutdown") then Ok (call.Begin Shutdown) else (
+    if bytes_eq name (codes "vm.pause") then Ok (call.Begin Pause) else (
+    if bytes_eq name (codes "vm.resume") then Ok call.Resume else (
+    if bytes_eq name (codes "vm.resize") then resize_of body >>= (λ asked. Ok (call.Resize asked.0 asked.1)) else (
+    if bytes_eq name (codes "vm.resize-zone") then zone_of body >>= (λ asked. Ok (call.ResizeZone asked.0 asked.1)) else (
+    if bytes_eq name (codes "vm.add-disk") then disk_of body >>= (λ disk. Ok (call.AddDisk disk)) else (
+    if bytes_eq name (codes "vm.remove-device") then text_of body (codes "id") >>= (λ id. Ok (call.Remove id)) else (
+    if bytes_eq name (codes "vm.snapshot") then text_of body (codes "destination_url") >>= snapshot_name >>= (λ name. Ok (call.Snapshot name)) else (
+    if bytes_eq name (codes "vm.restore") then text_of body (codes "source_url") >>= snapshot_name >>= (λ name. Ok (call.Restore name)) else
+    Err NoRoute)))))))))))
+
+-- the call of a request for the route of this name
+abbrev pub call_named : Request → Option (List ℕ) → Result ControlCall Rule
+call_named request None = Err NoRoute
+call_named request (Some name) = if request.get then get_call name else (if request.put then put_call name request.body else Err NoRoute)
+
+-- The control call that a request makes, or the rule that refuses the request before the control machine is asked.
+unfoldable pub call_of_request : Request → Result ControlCall Rule
+call_of_request request = call_named request (route_name request.target)
+
+-- ---- requests of a scenario that are built
+
+-- the control call that a request of a scenario makes, where its route is built: so far `vmm.ping`, `vm.info`, and
+-- `vm.create` with the body `{}`
 abbrev pub call_of : Asked → Option ControlCall
 call_of (asked.Get name) =
     if bytes_eq name (codes "vmm.ping") then Some call.Ping else
@@ -24,6 +86,8 @@ call_of (asked.Put name (Some body)) =
     if bytes_eq name (codes "vm.create") && bytes_eq body (codes "{}") then Some (call.Create default_config) else None
 call_of (asked.Put name None) = None
 call_of (asked.Raw bytes) = None
+
+-- ---- replies
 
 -- the body of `vmm.ping`
 unfoldable pub ping_body : List ℕ
@@ -46,3 +110,11 @@ status_and_body c r = (204, None)
 -- the bytes of the reply to a request whose call was answered so, and after which the connection stays open
 abbrev pub reply_of : ControlEntry → List ℕ
 reply_of e = let answer = status_and_body e.call e.reply in reply_of_status answer.0 answer.1 false
+
+-- The bytes of the reply to a request of which the last call was answered so. The `last` reply of a connection says so.
+abbrev pub reply_to_call : ControlCall → ControlReply → Bool → List ℕ
+reply_to_call c r last = let answer = status_and_body c r in reply_of_status answer.0 answer.1 last
+
+-- The bytes of the reply to a request, or to bytes that are none, that a rule refuses before the control machine is asked.
+abbrev pub refusal_bytes : Rule → Bool → List ℕ
+refusal_bytes rule last = reply_of_status (rule_status rule) (Some (rule_body rule)) last

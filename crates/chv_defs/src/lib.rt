@@ -6,14 +6,17 @@ mod bytes;
 mod config;
 mod context;
 mod control;
+mod desk;
 mod exact;
 mod info;
 mod machine;
 mod name;
+mod place;
 mod register;
 mod request;
 mod row;
 mod rule;
+mod run;
 mod scene;
 mod session;
 mod text;
@@ -29,14 +32,17 @@ pub use context::{
 pub use control::{
     BusyAt, ControlCall, ControlEntry, ControlReply, Goal, MemAnswer, MemRequest, Role,
 };
+pub use desk::{Desk, Stopped};
 pub use exact::{Exact, copy_of};
 pub use info::{DeviceInfo, Info, ShownState, ZoneInfo};
 pub use machine::{Life, Machine, Region};
 pub use name::Name;
+pub use place::Place;
 pub use register::RegAccess;
 pub use request::{Request, Took};
 pub use row::Row;
 pub use rule::{Reason, Rule};
+pub use run::Run;
 pub use scene::{Asked, Line, MadeDisk, MathOp, OnShelf, OrderStep, Scene, Script, VcpuSection};
 pub use session::{SessionEnd, SessionLog};
 pub use text::Text;

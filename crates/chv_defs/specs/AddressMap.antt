@@ -4,9 +4,9 @@ use Rattle.std.specs.Prelude.{ℕ, ◌+◌, ◌-◌, ◌*◌, ◌/◌, ◌%◌, 
 use Rattle.std.specs.List.{list_all, range_with_len}
 use Rattle.chv_defs.specs.declared.config.ZoneConfig.{ZoneConfig}
 use Rattle.chv_defs.specs.declared.machine.Region.{Region}
-use Rattle.chv_addr.specs.declared.place.Place.{Place}
-use Rattle.chv_addr.specs.declared.place.Place.TheVariants.{Ram, Bar, Hole, Crosses}
-use Rattle.chv_addr.specs.declared.run.Run.{Run}
+use Rattle.chv_defs.specs.declared.place.Place.{Place}
+use Rattle.chv_defs.specs.declared.place.Place.TheVariants.{Ram, Bar, Hole, Crosses}
+use Rattle.chv_defs.specs.declared.run.Run.{Run}
 
 -- ---- the layout
 

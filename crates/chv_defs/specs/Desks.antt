@@ -1,0 +1,59 @@
+-- A desk, at which one caller asks the control machine: which calls it may make there, and which answers they can have.
+-- Callers and their numbers are this project's own.
+use Rattle.std.specs.Prelude.{◌≡◌, ℕ, Bool, true, false, List, [], ◌∷◌}
+use Rattle.chv_defs.specs.declared.control.ControlCall.{ControlCall}
+use Rattle.chv_defs.specs.declared.control.ControlCall.TheVariants as call
+use Rattle.chv_defs.specs.declared.control.ControlReply.{ControlReply}
+use Rattle.chv_defs.specs.declared.control.ControlReply.TheVariants as reply
+use Rattle.chv_defs.specs.Machine.{IsSession}
+
+-- A call that was made, with its answer.
+pub record Answer : Type 0 where
+  pub call : ControlCall
+  pub reply : ControlReply
+
+-- a call of the API, or the last call of a session
+abbrev pub is_api_call : ControlCall → Bool
+is_api_call call.Settle = false
+is_api_call (call.Take role) = false
+is_api_call (call.Hand note) = false
+is_api_call (call.Reg context access) = false
+is_api_call (call.Mem slot request) = false
+is_api_call call.Stop = false
+is_api_call _ = true
+
+-- an answer that says that the goal is not reached yet
+abbrev pub is_holding : ControlReply → Bool
+is_holding reply.Holding = true
+is_holding _ = false
+
+-- the last of the answers is Holding, so that the caller has to settle
+abbrev pub is_held : List Answer → Bool
+is_held [] = false
+is_held (a ∷ []) = is_holding a.reply
+is_held (a ∷ b ∷ more) = is_held (b ∷ more)
+
+-- A session may make the calls of the API and its Bye, and behind an answer Holding its Settle.
+abbrev pub MayAsk : ℕ → List Answer → ControlCall → Type 0
+MayAsk caller answers call.Settle = IsSession caller × (is_held answers ≡ true)
+MayAsk caller answers c = IsSession caller × (is_api_call c ≡ true)
+
+-- whether an answer is one of those that a call of a session can have
+abbrev pub can_have : ControlCall → ControlReply → Bool
+can_have call.Ping reply.Done = true
+can_have call.Ping _ = false
+can_have call.Settle reply.Done = true
+can_have call.Settle _ = false
+can_have call.Bye reply.Done = true
+can_have call.Bye _ = false
+can_have _ (reply.Ruled rule) = true
+can_have call.Info (reply.Shown info) = true
+can_have call.Info _ = false
+can_have call.Counters (reply.Counted counts) = true
+can_have call.Counters _ = false
+can_have (call.Restore name) (reply.Restored image) = true
+can_have (call.Restore name) _ = false
+can_have (call.AddDisk disk) (reply.Added id slot) = true
+can_have (call.Begin goal) reply.Holding = true
+can_have c reply.Done = is_api_call c
+can_have _ _ = false
