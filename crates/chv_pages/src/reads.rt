@@ -1,5 +1,5 @@
 // Looking pages up, and reading them.
-ghost use Rattle.std.specs.Prelude.{◌≡◌, ◌==◌, ◌+◌, ◌*◌, ◌<◌, ◌≤◌, ◌/◌, ◌%◌, ℕ, nat_lt, false, length, position, slice_index, MatchOption};
+ghost use Rattle.std.specs.Prelude.{◌≡◌, ◌==◌, ◌+◌, ◌-◌, ◌*◌, ◌<◌, ◌≤◌, ◌/◌, ◌%◌, ℕ, nat_lt, false, length, min, position, slice_index, MatchOption};
 ghost use Rattle.std.specs.List.{prefix_len};
 ghost use Rattle.chv_defs.specs.PageContents.{is_inside};
 ghost use Rattle.chv_pages.specs.HeldPages.{has_number, held_at, is_there, IsAt};
@@ -62,10 +62,7 @@ pub fn is_there(held: &[Held], place: usize, number: u64) -> bool
 
 /// How many of `len` bytes from an offset on lie in its page.
 pub fn piece_len(offset: usize, len: usize) -> usize
-    requires { 0 < len }
-    ensures some { 0 < result }
-    ensures most { result ≤ len }
-    ensures page { offset % 4096 + result ≤ 4096 }
+    ensures { result ≡ min len (4096 - offset % 4096) }
 {
     len.min(PAGE_BYTES - offset % PAGE_BYTES)
 }
