@@ -1,7 +1,28 @@
 // One small set of each kind. The contracts say the rest.
 use crate::BlockSet;
 use chv_defs::Span;
+use std::alloc::{AllocError, Global};
 use std::test::Fail;
+
+// Whether each call says the same of a set of this one block.
+fn is_alone(alloc: Global, block: u32) -> Result<bool, AllocError> {
+    let alone = Span {
+        first: block % 32_768,
+        count: 1,
+    };
+    let mut set = BlockSet::new(alloc, 32_768)?;
+    set.insert_range(alone);
+    let is_found = set.has(block) && set.count() == 1;
+    Ok(is_found && set.ranges()?.as_slice() == [alone].as_slice())
+}
+
+#[test]
+fn sets_of_one_block(rt: HostRuntime) -> Result<(), Fail> {
+    for block in [0, 63, 64, 65, 32_767] {
+        assert!(rt; is_alone(rt.alloc(), block)?, "{block}");
+    }
+    Ok(())
+}
 
 #[test]
 fn a_run_across_the_edge_of_a_word(rt: HostRuntime) -> Result<(), Fail> {
