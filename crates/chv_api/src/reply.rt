@@ -13,12 +13,12 @@ use std::alloc::{AllocError, Global};
 pub fn reply_of(
     alloc: Global,
     reply: &ControlReply,
-    now: &ControlCall,
+    call: &ControlCall,
     last: bool,
 ) -> Result<Bytes, AllocError>
-    ensures { IfOk result (λ bytes. bytes ≡ routes.reply_to_call now.now reply.now last) }
+    ensures { IfOk result (λ bytes. bytes ≡ routes.reply_to_call call.now reply.now last) }
 {
-    let (status, body) = status_and_body(alloc, now, reply)?;
+    let (status, body) = status_and_body(alloc, call, reply)?;
     reply_bytes(alloc, status, body.as_ref(), last)
 }
 

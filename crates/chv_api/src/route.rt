@@ -47,7 +47,7 @@ pub(crate) fn put_call(
 fn create(alloc: Global, body: &[u8]) -> Result<Result<ControlCall, Rule>, AllocError>
     ensures { IfOk result (λ call. call ≡ routes.put_call (codes "vm.create") body.now) }
 {
-    Ok(config_of(alloc, body)?.map(|config| ControlCall::Create(config)))
+    Ok(config_of(alloc, body)?.map(ControlCall::Create))
 }
 
 fn resize(alloc: Global, body: &[u8]) -> Result<Result<ControlCall, Rule>, AllocError>
@@ -65,23 +65,23 @@ fn resize_zone(alloc: Global, body: &[u8]) -> Result<Result<ControlCall, Rule>, 
 fn add_disk(alloc: Global, body: &[u8]) -> Result<Result<ControlCall, Rule>, AllocError>
     ensures { IfOk result (λ call. call ≡ routes.put_call (codes "vm.add-disk") body.now) }
 {
-    Ok(disk_of(alloc, body)?.map(|disk| ControlCall::AddDisk(disk)))
+    Ok(disk_of(alloc, body)?.map(ControlCall::AddDisk))
 }
 
 fn remove_device(alloc: Global, body: &[u8]) -> Result<Result<ControlCall, Rule>, AllocError>
     ensures { IfOk result (λ call. call ≡ routes.put_call (codes "vm.remove-device") body.now) }
 {
-    Ok(text_of(alloc, body, "id")?.map(|id| ControlCall::Remove(id)))
+    Ok(text_of(alloc, body, "id")?.map(ControlCall::Remove))
 }
 
 fn snapshot(alloc: Global, body: &[u8]) -> Result<Result<ControlCall, Rule>, AllocError>
     ensures { IfOk result (λ call. call ≡ routes.put_call (codes "vm.snapshot") body.now) }
 {
-    Ok(snapshot_at(alloc, body, "destination_url")?.map(|name| ControlCall::Snapshot(name)))
+    Ok(snapshot_at(alloc, body, "destination_url")?.map(ControlCall::Snapshot))
 }
 
 fn restore(alloc: Global, body: &[u8]) -> Result<Result<ControlCall, Rule>, AllocError>
     ensures { IfOk result (λ call. call ≡ routes.put_call (codes "vm.restore") body.now) }
 {
-    Ok(snapshot_at(alloc, body, "source_url")?.map(|name| ControlCall::Restore(name)))
+    Ok(snapshot_at(alloc, body, "source_url")?.map(ControlCall::Restore))
 }
