@@ -6,7 +6,6 @@ mod laws;
 mod play;
 mod print;
 mod program;
-mod reply;
 mod request;
 mod scenario;
 mod status;

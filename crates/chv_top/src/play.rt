@@ -4,14 +4,14 @@ ghost use Rattle.chv_defs.specs.declared.session.SessionEnd.TheVariants as sessi
 ghost use Rattle.chv_defs.specs.Machine.{empty_machine};
 ghost use Rattle.chv_defs.specs.ApiStep.{reply_to, after};
 ghost use Rattle.chv_defs.specs.SceneText.{request_bytes};
-ghost use Rattle.chv_defs.specs.Routes.{reply_of};
+ghost use Rattle.chv_defs.specs.Routes as routes;
 ghost use Rattle.chv_defs.specs.Schedule.{entry_of, schedule};
 ghost use Rattle.chv_top.specs.Request.{asked_of, call_made};
 ghost use Rattle.chv_top.specs.Played.{played, entries_with_bye, bytes_asked, bytes_replied};
 ghost use Rattle.chv_control.specs.Control.{fresh};
 
-use crate::reply::reply_bytes;
 use crate::request::Request;
+use chv_api::reply_of;
 use chv_control::{Control, Start};
 use chv_defs::{Bytes, ControlCall, Row, SessionEnd, SessionLog, SessionTrace, Trace};
 use std::alloc::{AllocError, Global};
@@ -57,12 +57,12 @@ fn play_request(
         ≡ control.old.history ++ entry_of control.old.machine 1 (call_made request) ∷ []) }
     ensures asked { OnOk result (string_bytes asked.new ≡ string_bytes asked.old ++ request_bytes (asked_of request)) }
     ensures replied { OnOk result (replied.new.items
-        ≡ replied.old.items ++ reply_of (entry_of control.old.machine 1 (call_made request))) }
+        ≡ replied.old.items ++ routes.reply_of (entry_of control.old.machine 1 (call_made request))) }
 {
     asked.push_str(request.bytes())?;
     let call = request.call(alloc);
     let reply = control.apply(u32::from(SESSION), &call)?;
-    let bytes = reply_bytes(alloc, &call, &reply)?;
+    let bytes = reply_of(alloc, &reply, &call, false)?;
     replied.extend_from_slice(bytes.as_slice())
 }
 
