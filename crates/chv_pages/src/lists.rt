@@ -1,5 +1,5 @@
 // Lists of pages.
-ghost use Rattle.std.specs.Prelude.{◌≡◌, ◌*◌, ◌/◌, ◌%◌, ◌<◌, ◌^◌, IfOk, vec_len};
+ghost use Rattle.std.specs.Prelude.{◌≡◌, ◌*◌, ◌/◌, ◌%◌, ◌<◌, ◌^◌, IfOk, length, vec_len};
 ghost use Rattle.chv_pages.specs.HeldPages.{visible, AreHeld};
 
 use crate::held::Held;
@@ -30,6 +30,20 @@ pub fn shown_pages(alloc: Global, blocks: u32, held: &[Held]) -> Result<Row<Page
         }
     }
     Ok(pages)
+}
+
+/// How many pages are not all zero.
+pub fn count_shown(held: &[Held]) -> usize
+    ensures { result ≡ length (visible held.now) }
+{
+    let mut count = 0;
+    for h in held {
+        if h.page.is_blank() {
+            continue;
+        }
+        count += 1;
+    }
+    count
 }
 
 // A page as it is shown.

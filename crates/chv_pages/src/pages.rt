@@ -4,7 +4,7 @@ ghost use Rattle.chv_defs.specs.PageContents.{byte_at, bytes_at, pages_of, AreEx
 
 use crate::edits::{drop_block, hold_range, put_page, write_held};
 use crate::held::Held;
-use crate::lists::{blank_pages, shown_pages};
+use crate::lists::{blank_pages, count_shown, shown_pages};
 use crate::page::{PAGE_BYTES, Page};
 use crate::reads::{number_of, read_held};
 use chv_defs::{PageAt, Row};
@@ -111,6 +111,21 @@ impl Pages {
         ensures { Clears self.old self.new block }
     {
         drop_block(&mut self.held, block);
+    }
+
+    /// Makes every byte of every block 0, and drops all pages.
+    pub fn clear(&mut self)
+        ensures { self.new ≡ record self.old { pages = [] } }
+    {
+        self.held.clear();
+    }
+
+    /// How many pages are not all zero.
+    pub fn count(&self) -> usize
+        ensures count { result ≡ length self.now.pages }
+        ensures exact { AreExact self.now }
+    {
+        count_shown(self.held.as_slice())
     }
 
     /// The pages that are not all zero, ascending by block and page.
