@@ -1,0 +1,3 @@
+pub mod Bank
+pub mod Caches
+pub mod Kept
