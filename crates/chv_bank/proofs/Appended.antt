@@ -45,6 +45,10 @@ IsLegal-push bank h e legal next = λ i x at. elim (place h e i x at) [
       subst (λ before. IsNext bank before x) (sym here) (subst (λ y. IsNext bank h y) new.1 next))
 ]
 
+-- the empty history is legal
+pub IsLegal-none : (bank : ℕ) → IsLegal bank []
+IsLegal-none bank = λ i e at. cc
+
 owner_access : (bank : ℕ) (h : List BankEntry) (c : BankCall) (r : BankReply) → is_owner_call c ≡ true → IfAccess bank h c r
 owner_access bank h (call.Read block offset len) r own = cc
 owner_access bank h (call.Write block offset bytes) r own = cc

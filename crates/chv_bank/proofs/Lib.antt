@@ -1,4 +1,5 @@
 pub mod Appended
+pub mod KeptSteps
 pub mod Latest
 pub mod PinLists
 pub mod Ranges
