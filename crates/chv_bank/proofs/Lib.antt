@@ -1,0 +1,11 @@
+pub mod Appended
+pub mod ByteLaws
+pub mod KeptSteps
+pub mod Latest
+pub mod PinLaws
+pub mod PinLists
+pub mod Ranges
+pub mod Sets
+pub mod ShownPages
+pub mod Spans
+pub mod Walks

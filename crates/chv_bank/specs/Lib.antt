@@ -1,0 +1,4 @@
+pub mod Bank
+pub mod Caches
+pub mod Kept
+pub mod Laws
