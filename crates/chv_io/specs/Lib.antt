@@ -1,4 +1,5 @@
 pub mod MemLink
+pub mod MemListener
 pub mod MemSink
 pub mod MemSource
 pub mod Wrapped

@@ -41,6 +41,20 @@ fn fill<K: Sink>(sink: &mut K) -> ([bool; 3], u64) {
     ([first, second, third], sink.sink_faults())
 }
 
+/// Listens with one connection to give, and then asks for two, and says for each call whether it was answered, and then
+/// how many faults there were. The numbers are those of the calls that fail.
+fn serve(alloc: Global, fail: Row<u64>) -> Result<([bool; 3], u64), AllocError> {
+    let mut links = Vec::new(alloc);
+    links.push(MemLink::new(alloc, Bytes::of(alloc, b"x")?, 1, 0, Row::empty(alloc))?)?;
+    let mut listener = MemListener::new(links, fail);
+    if listener.listen(80).is_err() {
+        return Ok(([false; 3], listener.listen_faults()));
+    }
+    let first = listener.accept().is_ok();
+    let second = listener.accept().is_ok();
+    Ok(([true, first, second], listener.listen_faults()))
+}
+
 /// Interrupted, then one byte, then an error.
 #[derive(Drop)]
 struct Shaky {
@@ -121,6 +135,17 @@ fn link_in_memory(rt: HostRuntime) -> Result<(), Fail> {
     assert!(rt; link.is_closed());
     assert!(rt; link.written() == b"abc".as_slice());
     assert_eq!(rt; gives(&rt, alloc, &mut link, b"llo", true)?, 2);
+    Ok(())
+}
+
+#[test]
+fn listener_in_memory(rt: HostRuntime) -> Result<(), Fail> {
+    let alloc = rt.alloc();
+    // The second asks where no connection is left.
+    assert!(rt; serve(alloc, Row::empty(alloc))? == ([true, true, false], 1));
+    assert!(rt; serve(alloc, Row::new([1].to_vec(alloc)?))? == ([false, false, false], 1));
+    // A listed call leaves the connection for the next.
+    assert!(rt; serve(alloc, Row::new([2].to_vec(alloc)?))? == ([true, false, true], 1));
     Ok(())
 }
 
