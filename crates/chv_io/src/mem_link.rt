@@ -2,7 +2,7 @@
 ghost use Rattle.std.specs.Prelude.{◌≡◌, ◌<◌, ◌≤◌, ◌↔◌, [], length, take, min, false, IsOk, IfOk, OnErr};
 ghost use Rattle.std.specs.Io.{ReadsAtMost};
 ghost use Rattle.chv_defs.specs.Outside.{Takes, Puts, HasCause};
-ghost use Rattle.chv_defs.specs.Links.{Gives, ReadLeaves, WriteLeaves};
+ghost use Rattle.chv_defs.specs.Links.{Gives, ReadLeaves, WriteLeaves, Fills};
 ghost use Rattle.chv_defs.specs.FailingCalls.{no_calls, is_listed};
 ghost use Rattle.chv_io.specs.MemSink.{put_fails};
 ghost use Rattle.chv_io.specs.MemLink.{after_read, after_write, jar_of};
@@ -104,15 +104,16 @@ impl MemLink {
 }
 
 impl Source for MemLink {
-    ghost use Rattle.std.specs.Prelude.{Some};
-    ghost use Rattle.chv_defs.specs.Links.{Gives, ReadLeaves};
+    ghost use Rattle.std.specs.Prelude.{Some, length};
+    ghost use Rattle.chv_defs.specs.Links.{Gives, ReadLeaves, Fills};
 
     ghost left = { λ l. Some l.left };
 
     ghost read_faults = { λ l. l.calls.faults };
 
     ghost on_take = { λ a b buffer result. Gives (Some a.gave) (Some b.gave) buffer result
-        × ReadLeaves (Some a.written) (Some b.written) a.closed b.closed a.calls.faults b.calls.faults };
+        × ReadLeaves (Some a.written) (Some b.written) a.closed b.closed a.calls.faults b.calls.faults
+        × Fills (Some a.left) (Some a.piece) (Some b.piece) (length buffer) result };
 
     fn take(&mut self, buf: &mut [u8]) -> Result<usize, Failed>
         requires { 0 < length buf.old }
@@ -121,7 +122,8 @@ impl Source for MemLink {
         ensures cause { HasCause self.old.calls.faults self.new.calls.faults result }
         ensures also { Gives (Some self.old.gave) (Some self.new.gave) buf.new result
             × ReadLeaves (Some self.old.written) (Some self.new.written) self.old.closed self.new.closed
-            self.old.calls.faults self.new.calls.faults }
+            self.old.calls.faults self.new.calls.faults
+            × Fills (Some self.old.left) (Some self.old.piece) (Some self.new.piece) (length buf.new) result }
 
         // Exactly the listed calls fail, and every other gives as much as fits and one piece has.
         ensures answered { IsOk result ↔ (is_listed self.old.calls ≡ false) }
@@ -140,7 +142,7 @@ impl Source for MemLink {
 }
 
 impl Sink for MemLink {
-    ghost use Rattle.std.specs.Prelude.{Some};
+    ghost use Rattle.std.specs.Prelude.{◌≡◌, Some};
     ghost use Rattle.chv_defs.specs.Links.{WriteLeaves};
 
     ghost written = { λ l. Some l.written };
@@ -148,13 +150,14 @@ impl Sink for MemLink {
     ghost write_faults = { λ l. l.calls.faults };
 
     ghost on_put = { λ a b. WriteLeaves (Some a.left) (Some b.left) (Some a.gave) (Some b.gave) a.closed b.closed
-        a.calls.faults b.calls.faults };
+        a.calls.faults b.calls.faults × (Some b.piece ≡ Some a.piece) };
 
     fn put(&mut self, bytes: &[u8]) -> Result<(), Failed>
         ensures bytes { Puts (Some self.old.written) (Some self.new.written) bytes.now result }
         ensures cause { HasCause self.old.calls.faults self.new.calls.faults result }
         ensures also { WriteLeaves (Some self.old.left) (Some self.new.left) (Some self.old.gave) (Some self.new.gave)
-            self.old.closed self.new.closed self.old.calls.faults self.new.calls.faults }
+            self.old.closed self.new.closed self.old.calls.faults self.new.calls.faults
+            × (Some self.new.piece ≡ Some self.old.piece) }
 
         // Exactly the listed calls fail, and those that would pass the room.
         ensures answered { IsOk result ↔ (put_fails (jar_of self.old) bytes.now ≡ false) }
@@ -183,11 +186,17 @@ impl Link for MemLink {
 
     ghost closed = { λ l. l.closed };
 
+    ghost most = { λ l. Some l.piece };
+
     ghost gives = { λ before after buffer result also. also.0 };
 
     ghost read_leaves = { λ before after buffer result also. also.1 };
 
-    ghost write_leaves = { λ before after also. also };
+    ghost fills = { λ before after buffer result also. also.2 };
+
+    ghost write_leaves = { λ before after also. also.0 };
+
+    ghost most_stays = { λ before after also. also.1 };
 
     fn close(&mut self)
         ensures { self.new ≡ record self.old { closed = true } }
