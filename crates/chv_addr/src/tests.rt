@@ -4,7 +4,9 @@ ghost use Rattle.std.specs.List.{list_all};
 ghost use Rattle.chv_defs.specs.AddressMap.{is_within_limits};
 
 use crate::AddrMap;
-use chv_defs::{Checked, CpuConfig, Hotplug, MemConfig, Place, Region, Row, Text, VmConfig, ZoneConfig};
+use chv_defs::{
+    Checked, CpuConfig, Hotplug, MemConfig, Place, Region, Row, Text, VmConfig, ZoneConfig,
+};
 use std::alloc::{AllocError, Global};
 use std::test::Fail;
 

@@ -1,5 +1,5 @@
--- A desk, at which one caller asks the control machine: which calls it may make there, and which answers they can have.
--- Callers and their numbers are this project's own.
+-- A desk, at which one caller asks the control machine: which calls it may make there, and of which kinds their answers
+-- are. So far the caller is a session. Callers and their numbers are this project's own.
 use Rattle.std.specs.Prelude.{◌≡◌, ℕ, Bool, true, false, List, [], ◌∷◌}
 use Rattle.chv_defs.specs.declared.control.ControlCall.{ControlCall}
 use Rattle.chv_defs.specs.declared.control.ControlCall.TheVariants as call
@@ -12,15 +12,15 @@ pub record Answer : Type 0 where
   pub call : ControlCall
   pub reply : ControlReply
 
--- a call of the API, or the last call of a session
-abbrev pub is_api_call : ControlCall → Bool
-is_api_call call.Settle = false
-is_api_call (call.Take role) = false
-is_api_call (call.Hand note) = false
-is_api_call (call.Reg context access) = false
-is_api_call (call.Mem slot request) = false
-is_api_call call.Stop = false
-is_api_call _ = true
+-- a call that a session makes unasked: one of the API, or its Bye
+abbrev pub is_session_call : ControlCall → Bool
+is_session_call call.Settle = false
+is_session_call (call.Take role) = false
+is_session_call (call.Hand note) = false
+is_session_call (call.Reg context access) = false
+is_session_call (call.Mem slot request) = false
+is_session_call call.Stop = false
+is_session_call _ = true
 
 -- an answer that says that the goal is not reached yet
 abbrev pub is_holding : ControlReply → Bool
@@ -36,9 +36,9 @@ is_held (a ∷ b ∷ more) = is_held (b ∷ more)
 -- A session may make the calls of the API and its Bye, and behind an answer Holding its Settle.
 abbrev pub MayAsk : ℕ → List Answer → ControlCall → Type 0
 MayAsk caller answers call.Settle = IsSession caller × (is_held answers ≡ true)
-MayAsk caller answers c = IsSession caller × (is_api_call c ≡ true)
+MayAsk caller answers c = IsSession caller × (is_session_call c ≡ true)
 
--- whether an answer is one of those that a call of a session can have
+-- whether an answer is of a kind that a call of a session can have; which rule refuses it is not said here
 abbrev pub can_have : ControlCall → ControlReply → Bool
 can_have call.Ping reply.Done = true
 can_have call.Ping _ = false
@@ -55,5 +55,5 @@ can_have (call.Restore name) (reply.Restored image) = true
 can_have (call.Restore name) _ = false
 can_have (call.AddDisk disk) (reply.Added id slot) = true
 can_have (call.Begin goal) reply.Holding = true
-can_have c reply.Done = is_api_call c
+can_have c reply.Done = is_session_call c
 can_have _ _ = false

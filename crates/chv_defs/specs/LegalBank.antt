@@ -91,7 +91,8 @@ page_count bank before = length (pages_of most_blocks (last_byte bank before))
 
 -- ---- an entry
 
--- no block of an access is sealed, and the bank is not frozen; its reply is that of the definition
+-- no block of an access is sealed, and the bank is not frozen; its reply is a fault at its lowest block that is not open,
+-- or else that it is done
 pub record IsAccess (bank : ℕ) (before : List BankEntry) (c : BankCall) (r : BankReply) : Type 0 where
   pub thawed : IsThawed before
   pub unsealed : AreNotSealed bank before (blocks_of bank c)

@@ -80,8 +80,8 @@ AreTaken count rest [] = Unit {0}
 AreTaken count rest (piece ∷ pieces) =
     IsShort rest × (0 < length piece) × (length piece ≤ asks_for count) × AreTaken (count + length piece) (rest ++ piece) pieces
 
--- A connection that has these bytes left, and that gives in one read as much as fits and as one piece of it has, gave
--- these pieces to a session that had so many bytes.
+-- A connection with these bytes left, of which each read gives as much as was asked for, as is left, and as its `most`
+-- allows, gave these pieces to a session that had so many bytes.
 abbrev pub AreGiven : ℕ → List ℕ → ℕ → List (List ℕ) → Type 0
 AreGiven most left count [] = Unit {0}
 AreGiven most left count (piece ∷ pieces) =
@@ -93,13 +93,14 @@ AreGiven most left count (piece ∷ pieces) =
 abbrev pub IsBad : List ℕ → Rule → Type 0
 IsBad rest rule = Cuts rest (took.Bad rule) rest
 
--- whole requests, none last; after them nothing
+-- fewer bytes than a session takes: whole requests, none last; after them nothing
 abbrev pub HasEnded : List ℕ → List ℕ → List Answer → Type 0
-HasEnded asked replied made = IsOpen asked replied made []
+HasEnded asked replied made = (length asked < session_limit) × IsOpen asked replied made []
 
--- whole requests, none last; after them a part of one
+-- fewer bytes than a session takes: whole requests, none last; after them a part of one
 abbrev pub WasCut : List ℕ → List ℕ → List Answer → Type 0
-WasCut asked replied made = (rest : List ℕ) × IsOpen asked replied made rest × IsShort rest × (rest ≢ [])
+WasCut asked replied made =
+    (length asked < session_limit) × ((rest : List ℕ) × IsOpen asked replied made rest × IsShort rest × (rest ≢ []))
 
 -- whole requests, none last; after them bytes that a rule refuses, which were replied to as the last thing
 abbrev pub WasBad : List ℕ → List ℕ → List Answer → Type 0
@@ -120,13 +121,13 @@ abbrev pub HasReachedLimit : List ℕ → List ℕ → List Answer → Type 0
 HasReachedLimit asked replied made =
     (length asked ≡ session_limit) × ((rest : List ℕ) × IsOpen asked replied made rest × IsShort rest)
 
--- Replies to whole requests, none last. A read failed: behind these requests stands neither a whole one nor a refusal.
--- Or a write failed: the next request made its calls, or a rule refused what stands there, and the reply to that is left
+-- Replies to whole requests, none last. A read failed, below the limit: behind these requests stands neither a whole one
+-- nor a refusal. Or a write failed: the next request made its calls, or a rule refused what stands there, and the reply to that is left
 -- out.
 abbrev pub HasFailed : List ℕ → List ℕ → List Answer → Type 0
 HasFailed asked replied made =
     (calls : List Answer) × (rest : List ℕ) × IsOpen asked replied calls rest
-    × (((made ≡ calls) × IsShort rest)
+    × (((made ≡ calls) × IsShort rest × (length asked < session_limit))
     ⊎ ((made ≡ calls) × ((rule : Rule) × IsBad rest rule))
     ⊎ ((request : Request) × (behind : List ℕ) × (more : List Answer) × (reply : List ℕ)
     × BeginsWith rest request behind × Answered request more reply × (made ≡ calls ++ more)))
@@ -158,7 +159,7 @@ StopsAs asked replied made =
 
 -- How a session ended, what it asked and replied, and all its calls. It made the calls of its requests in order, and then
 -- one Bye; where it was stopped it made the first of these.
-abbrev pub IsSession : SessionEnd → List ℕ → List ℕ → List Answer → Type 0
-IsSession end.Stopped asked replied made = StopsAs asked replied made
-IsSession how asked replied made =
+abbrev pub IsSessionLog : SessionEnd → List ℕ → List ℕ → List Answer → Type 0
+IsSessionLog end.Stopped asked replied made = StopsAs asked replied made
+IsSessionLog how asked replied made =
     (calls : List Answer) × (bye : Answer) × EndsAs how asked replied calls × (bye.call ≡ call.Bye) × (made ≡ calls ++ bye ∷ [])
