@@ -1,5 +1,5 @@
 // Requests cut from a stream that comes in pieces.
-ghost use Rattle.std.specs.Prelude.{◌≡◌, ◌≤◌, ◌+◌, [], ◌++◌, length, drop, take, IfOk, OnOk, OnErr, vec_len};
+ghost use Rattle.std.specs.Prelude.{◌≡◌, ◌≤◌, ◌+◌, ◌==◌, [], ◌++◌, length, drop, take, IfOk, OnOk, OnErr, vec_len};
 ghost use Rattle.chv_defs.specs.Requests.{Cuts};
 
 use crate::stage::Stage;
@@ -45,6 +45,13 @@ impl Parser {
             start: 0,
             stage: Stage::UNSEEN,
         })
+    }
+
+    /// Whether all that was fed was given.
+    pub fn is_empty(&self) -> bool
+        ensures { result ≡ (length self.now == 0) }
+    {
+        self.start == self.buffer.len()
     }
 
     /// Appends a piece of the stream. After want of memory nothing has changed.

@@ -1,0 +1,4 @@
+mod TakingLemmas
+mod FoundLemmas
+mod LeavesLemmas
+mod DeskLemmas

@@ -1,0 +1,6 @@
+pub mod Talk
+pub mod Taking
+pub mod Found
+pub mod Response
+pub mod Wire
+pub mod Step
