@@ -2,3 +2,5 @@ mod TakingLemmas
 mod FoundLemmas
 mod LeavesLemmas
 mod DeskLemmas
+mod StepLemmas
+mod ResultLemmas

@@ -6,6 +6,7 @@ mod fill;
 mod next;
 mod respond;
 mod send;
+mod session;
 mod state;
 
 pub use next::Next;
