@@ -4,3 +4,4 @@ mod LeavesLemmas
 mod DeskLemmas
 mod StepLemmas
 mod ResultLemmas
+mod ReadyLemmas

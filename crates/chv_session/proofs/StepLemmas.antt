@@ -217,7 +217,7 @@ pub step_is : (what : Found) (all : Bool) (response : Option (List ℕ)) (planne
 step_is what all response planned then_of said asked asked_after rest rest_after replied replied_after first middle after put put_then put_now put_after faults faults_after halted halted_then halted_after finds is_all responds first_puts sends last_puts finishes =
     let hand : List ℕ = rest ++ finds.0 in
     let sends_it = subst (λ p. Sends response planned then_of replied replied_after p put_after faults faults_after) first_puts
-        (subst (λ q. Sends response planned then_of replied replied_after put_then q faults faults_after) (sym last_puts) sends) in
+    (subst (λ q. Sends response planned then_of replied replied_after put_then q faults faults_after) (sym last_puts) sends) in
     let sent = sent_is what all response planned then_of hand rest_after asked_after replied replied_after put put_after faults faults_after halted halted_then responds.0 finds.2 is_all responds.2 sends_it in
     let last = said_is then_of said hand rest_after asked_after sent.reply sent.unsent first middle after halted_then halted_after responds.0 responds.1 sent.comes finishes in
     record {
@@ -299,7 +299,7 @@ pub breaks_sent : (what : Found) (all : Bool) (response : Option (List ℕ)) (pl
 breaks_sent what all response planned then_of asked asked_after rest rest_after replied replied_after first middle after put put_then put_now put_after faults faults_after halted halted_then finds is_all responds first_puts sends last_puts same =
     let hand : List ℕ = rest ++ finds.0 in
     let sends_it = subst (λ p. Sends response planned then_of replied replied_after p put_after faults faults_after) first_puts
-        (subst (λ q. Sends response planned then_of replied replied_after put_then q faults faults_after) (sym last_puts) sends) in
+    (subst (λ q. Sends response planned then_of replied replied_after put_then q faults faults_after) (sym last_puts) sends) in
     let sent = sent_is what all response planned then_of hand rest_after asked_after replied replied_after put put_after faults faults_after halted halted_then responds.0 finds.2 is_all responds.2 sends_it in
     record {
       calls = (responds.0, same ∙ responds.1);

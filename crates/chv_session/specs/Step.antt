@@ -1,11 +1,11 @@
 -- What one call of `next` brings about.
-use Rattle.std.specs.Prelude.{◌≡◌, ◌≢◌, ◌≤◌, ◌<◌, ◌⊎◌, ℕ, Bool, true, false, List, [], ◌∷◌, ◌++◌, length, take, Option, None, Some}
+use Rattle.std.specs.Prelude.{◌≡◌, ◌≢◌, ◌≤◌, ◌<◌, ◌⊎◌, ⊤, ℕ, Bool, true, false, List, [], ◌∷◌, ◌++◌, length, take, Option, None, Some}
 use Rattle.chv_defs.specs.declared.rule.Rule.{Rule}
 use Rattle.chv_defs.specs.declared.request.Request.{Request}
 use Rattle.chv_defs.specs.declared.control.ControlCall.TheVariants as call
 use Rattle.chv_defs.specs.declared.session.SessionEnd.{SessionEnd}
 use Rattle.chv_defs.specs.declared.session.SessionEnd.TheVariants as end
-use Rattle.chv_defs.specs.Desks.{Answer}
+use Rattle.chv_defs.specs.Desks.{Answer, is_held}
 use Rattle.chv_defs.specs.Outside.{Gains}
 use Rattle.chv_defs.specs.Requests.{BeginsWith, IsShort}
 use Rattle.chv_defs.specs.Routes.{refusal_bytes}
@@ -76,6 +76,11 @@ abbrev pub Halts : Next → Bool → Bool → Type 0
 Halts next.Answered before after = after ≡ before
 Halts (next.Ended end.Stopped) before after = after ≡ true
 Halts (next.Ended _) before after = after ≡ before
+
+-- Behind an answered request no Settle is owed.
+abbrev pub IsReady : Next → List Answer → Type 0
+IsReady next.Answered answers = is_held answers ≡ false
+IsReady (next.Ended how) answers = ⊤
 
 -- What an open session did: the bytes that it took, the calls that it made, the reply that was put, and the reply that was
 -- not, each behind what was there. No byte was taken behind what it answered.

@@ -10,3 +10,5 @@ mod session;
 mod state;
 
 pub use next::Next;
+pub use session::Session;
+pub use state::State;

@@ -1,7 +1,7 @@
 // Where a session stands.
 use chv_defs::SessionEnd;
 
-/// Where a session stands.
+/// Where a session stands, as contracts see it.
 #[derive(Clone, Copy, PartialEq, Eq, Debug)]
 pub enum State {
     /// It takes requests.
