@@ -11,7 +11,7 @@ use Rattle.chv_defs.specs.Machine.{IsSession}
 use Rattle.chv_defs.specs.Desks.{Answer, is_held, is_holding, can_have, is_session_call}
 use Rattle.chv_defs.specs.JsonBodies.{◌>>=◌}
 use Rattle.chv_defs.specs.Routes.{call_of_request, call_named, get_call, put_call, reply_to_call, route_name}
-use Rattle.chv_defs.specs.SessionBytes.{Makes, Holds, AnsweredBy, Answered}
+use Rattle.chv_defs.specs.SessionBytes.{Makes, Holds, AnsweredBy}
 use Rattle.chv_session.specs.declared.respond.Then.{Then}
 use Rattle.chv_session.specs.Response.{HasMadeAlso, Serves, then_after}
 

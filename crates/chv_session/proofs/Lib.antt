@@ -5,3 +5,4 @@ mod DeskLemmas
 mod StepLemmas
 mod ResultLemmas
 mod ReadyLemmas
+mod LawLemmas

@@ -1,17 +1,16 @@
 -- What one call comes to, from what was found to what was said.
-use Rattle.std.proofs.Common.{◌≡◌, ◌≢◌, ◌<◌, ◌≤◌, ◌⊎◌, ◌==◌, ℕ, ◌+◌, ◌^◌, Bool, true, false, List, [], ◌∷◌, ◌++◌, length, take, Option, Some, None, Ok, Result, refl, sym, ap, subst, ◌∙◌, inl, inr, arith, append_assoc}
+use Rattle.std.proofs.Common.{◌≡◌, ◌≢◌, ◌<◌, ◌==◌, ℕ, Bool, true, false, List, [], ◌∷◌, ◌++◌, length, take, Option, Some, None, refl, sym, ap, subst, ◌∙◌, inl, inr, arith, append_assoc}
 use Rattle.std.proofs.lemmas.List.{append-nil}
 use Rattle.std.proofs.lemmas.Bool.{eqb-true}
-use Rattle.chv_defs.specs.declared.rule.Rule.{Rule}
 use Rattle.chv_defs.specs.declared.request.Request.{Request}
 use Rattle.chv_defs.specs.declared.control.ControlCall.TheVariants as call
 use Rattle.chv_defs.specs.declared.session.SessionEnd.{SessionEnd}
 use Rattle.chv_defs.specs.declared.session.SessionEnd.TheVariants as end
 use Rattle.chv_defs.specs.Desks.{Answer}
-use Rattle.chv_defs.specs.Outside.{Rose, Gains, GainsPart}
+use Rattle.chv_defs.specs.Outside.{Gains, GainsPart}
 use Rattle.chv_defs.specs.Requests.{BeginsWith, IsShort}
 use Rattle.chv_defs.specs.Routes.{refusal_bytes}
-use Rattle.chv_defs.specs.SessionBytes.{Answered, IsBad, session_limit}
+use Rattle.chv_defs.specs.SessionBytes.{Answered, session_limit}
 use Rattle.chv_session.specs.declared.fill.Found.{Found}
 use Rattle.chv_session.specs.declared.fill.Found.TheVariants as found
 use Rattle.chv_session.specs.declared.respond.Then.{Then}
@@ -19,8 +18,8 @@ use Rattle.chv_session.specs.declared.respond.Then.TheVariants as then_is
 use Rattle.chv_session.specs.declared.next.Next.{Next}
 use Rattle.chv_session.specs.declared.next.Next.TheVariants as next
 use Rattle.chv_session.specs.Found.{IsFound, Finds}
-use Rattle.chv_session.specs.Response.{HasMade, HasMadeAlso, StopsIn, Serves, Responds, Sends, Finishes, then_after, end_at}
-use Rattle.chv_session.specs.Step.{PutsWith, PutsMore, ComesToEnd, Stops, EndsBy, Outcome, Step, Halts, Breaks}
+use Rattle.chv_session.specs.Response.{HasMade, HasMadeAlso, StopsIn, Responds, Sends, Finishes, then_after, end_at}
+use Rattle.chv_session.specs.Step.{PutsWith, PutsMore, ComesToEnd, EndsBy, Outcome, Step, Halts, Breaks}
 
 -- ---- what is put
 

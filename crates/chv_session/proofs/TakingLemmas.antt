@@ -1,10 +1,10 @@
 -- What a session takes, piece by piece.
-use Rattle.std.proofs.Common.{◌≡◌, ◌<◌, ◌≤◌, ℕ, zero, suc, ◌+◌, min, List, [], ◌∷◌, ◌++◌, length, take, drop, Option, None, Some, Result, Ok, Err, refl, sym, ap, subst, ◌∙◌, arith, append_assoc, length-append, add_assoc, add-zero}
+use Rattle.std.proofs.Common.{◌≡◌, ◌≤◌, ℕ, zero, suc, ◌+◌, List, [], ◌∷◌, ◌++◌, length, take, drop, Option, None, Some, Ok, Err, sym, ap, subst, ◌∙◌, arith, append_assoc, length-append, add_assoc, add-zero}
 use Rattle.std.specs.List.{concat}
 use Rattle.std.proofs.lemmas.List.{append-nil, append_cancel_left, length-take-le, take-append-drop, drop-drop}
 use Rattle.std.proofs.Math.Seq.{drop-append_seam}
 use Rattle.std.proofs.lemmas.List.Folds.{concat-append}
-use Rattle.chv_defs.specs.Outside.{Takes, Moves, Gains, Loses}
+use Rattle.chv_defs.specs.Outside.{Takes, Gains, Loses}
 use Rattle.chv_defs.specs.Links.{Gives, Fills, GivesMost}
 use Rattle.chv_defs.specs.Requests.{IsShort}
 use Rattle.chv_defs.specs.SessionBytes.{AreTaken, AreGiven, asks_for}

@@ -1,5 +1,5 @@
 -- What a session finds in front of the bytes at hand, after it took as many as it needs.
-use Rattle.std.specs.Prelude.{◌≡◌, ◌<◌, ℕ, List, [], ◌++◌, length, Option, IfSome, Result, Ok, Err, ⊤}
+use Rattle.std.specs.Prelude.{◌≡◌, ◌<◌, ℕ, List, [], ◌++◌, length, Option, IfSome, ⊤}
 use Rattle.chv_defs.specs.Outside.{Rose}
 use Rattle.chv_defs.specs.Requests.{BeginsWith, IsShort}
 use Rattle.chv_defs.specs.SessionBytes.{IsBad, session_limit}

@@ -4,3 +4,4 @@ pub mod Found
 pub mod Response
 pub mod Wire
 pub mod Step
+pub mod Laws

@@ -1,6 +1,5 @@
 -- What a session does to its connection besides taking and putting.
 use Rattle.std.specs.Prelude.{◌≡◌, ◌⊎◌, ⊤, ℕ, Bool, true, List, [], Option, IfSome}
-use Rattle.chv_defs.specs.declared.session.SessionEnd.{SessionEnd}
 use Rattle.chv_defs.specs.declared.session.SessionEnd.TheVariants as end
 use Rattle.chv_defs.specs.Outside.{Rose}
 use Rattle.chv_session.specs.declared.next.Next.{Next}

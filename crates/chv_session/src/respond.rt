@@ -5,8 +5,8 @@ ghost use Rattle.chv_defs.specs.Desks.{is_session_call, is_holding};
 ghost use Rattle.chv_defs.specs.SessionBytes.{Makes, Holds};
 ghost use Rattle.chv_session.specs.Response.{Serves, Responds, then_after, HasMade, HasMadeAlso};
 
-use crate::api_stub::{calls_of, refusal_of, reply_of};
 use crate::fill::Found;
+use chv_api::{calls_of, refusal_of, reply_of};
 use chv_defs::{Bytes, ControlCall, ControlReply, Desk, Request, SessionEnd, Stopped};
 use std::alloc::{AllocError, Global};
 

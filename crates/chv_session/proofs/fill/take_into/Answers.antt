@@ -1,4 +1,4 @@
-use Rattle.std.proofs.Common.{◌≤◌, arith, sym, length}
+use Rattle.std.proofs.Common.{◌≤◌, arith, length}
 use Rattle.std.proofs.lemmas.Grind.{common_steps}
 use Rattle.chv_session.proofs.TakingLemmas.{takes_read}
 use Rattle.chv_session.proofs.fill.take_into.Goals as goal
