@@ -1,0 +1,31 @@
+-- Behind an answered request no Settle is owed.
+use Rattle.std.proofs.Common.{◌≡◌, Bool, false, ℕ, List, [], ◌∷◌, ◌++◌, Option, Result, Ok, Err, inl, inr, sym, ap, ◌∙◌, append_assoc}
+use Rattle.std.proofs.lemmas.List.{append-nil}
+use Rattle.chv_defs.specs.declared.rule.Rule.{Rule}
+use Rattle.chv_defs.specs.declared.control.ControlCall.{ControlCall}
+use Rattle.chv_defs.specs.declared.control.ControlReply.TheVariants as reply
+use Rattle.chv_defs.specs.Desks.{Answer, is_held}
+use Rattle.chv_defs.specs.Routes.{call_of_request}
+use Rattle.chv_defs.specs.SessionBytes.{AnsweredBy}
+use Rattle.chv_session.specs.declared.next.Next.{Next}
+use Rattle.chv_session.specs.declared.next.Next.TheVariants as next
+use Rattle.chv_session.specs.Step.{Step, IsReady}
+use Rattle.chv_session.proofs.DeskLemmas.{held_behind}
+
+answered_ready : (asks : Result ControlCall Rule) (last : Bool) (before made : List Answer) (bytes : List ℕ) → is_held before ≡ false
+    → AnsweredBy asks last made bytes → is_held (before ++ made) ≡ false
+answered_ready (Err rule) last before made bytes free by = ap is_held (ap (λ m. before ++ m) by.0 ∙ append-nil before) ∙ free
+answered_ready (Ok c) last before made bytes free (answer, (quiet, inl own), is) =
+    ap is_held (ap (λ m. before ++ m) own.1) ∙ held_behind before answer ∙ quiet
+answered_ready (Ok c) last before made bytes free (answer, (quiet, inr settled), is) =
+    let first : Answer = record { call = c; reply = reply.Holding } in
+    ap is_held (ap (λ m. before ++ m) settled.1 ∙ sym (append_assoc before (first ∷ []) (answer ∷ [])))
+    ∙ held_behind (before ++ first ∷ []) answer ∙ quiet
+
+pub step_ready : (what : Next) (asked asked_after rest rest_after replied replied_after : List ℕ) (answers answers_after : List Answer)
+    (put put_after : Option (List ℕ)) → Step what asked asked_after rest rest_after replied replied_after answers answers_after put put_after
+    → is_held answers ≡ false → IsReady what answers_after
+step_ready next.Answered asked asked_after rest rest_after replied replied_after answers answers_after put put_after step free =
+    ap is_held step.calls
+    ∙ answered_ready (call_of_request step.outcome.0) step.outcome.0.last answers step.made step.reply free step.outcome.3
+step_ready (next.Ended how) asked asked_after rest rest_after replied replied_after answers answers_after put put_after step free = tt

@@ -1,0 +1,7 @@
+pub mod Talk
+pub mod Taking
+pub mod Found
+pub mod Response
+pub mod Wire
+pub mod Step
+pub mod Laws

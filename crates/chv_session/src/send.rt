@@ -1,0 +1,76 @@
+// Puts a reply, and ends a session.
+ghost use Rattle.std.specs.Prelude.{◌≡◌, ◌≤◌, IfOk, OnErr};
+ghost use Rattle.chv_defs.specs.Machine.{IsSession};
+ghost use Rattle.chv_defs.specs.Links.{WriteLeaves};
+ghost use Rattle.chv_session.specs.Response.{Sends, Finishes};
+ghost use Rattle.chv_session.specs.Wire.{Closes, StaysButClosed};
+
+use crate::fill::keep;
+use crate::next::Next;
+use crate::respond::{Response, Then};
+use chv_defs::{ControlCall, Desk, SessionEnd, Stopped};
+use chv_io::{Failed, Link, write_to};
+use std::alloc::AllocError;
+
+/// Puts the reply of a response, where there is one, and keeps it. There is room for it before it is put.
+pub(crate) fn send<K: Link>(
+    replied: &mut Vec<u8>,
+    link: &mut K,
+    response: &Response,
+) -> Result<Then, AllocError>
+    ensures sends { IfOk result (λ after. Sends response.now.reply response.now.then after replied.old.items replied.new.items
+        (K.written link.old) (K.written link.new) (K.write_faults link.old) (K.write_faults link.new)) }
+    ensures err_replied { OnErr result (replied.new.items ≡ replied.old.items) }
+    ensures err_written { OnErr result (K.written link.new ≡ K.written link.old) }
+    ensures leaves { WriteLeaves (K.left link.old) (K.left link.new) (K.gave link.old) (K.gave link.new)
+        (K.closed link.old) (K.closed link.new) (K.read_faults link.old) (K.read_faults link.new) }
+    ensures most { K.most link.new ≡ K.most link.old }
+    ensures later { K.write_faults link.old ≤ K.write_faults link.new }
+{
+    let bytes = match &response.reply {
+        Some(bytes) => bytes,
+        None => return Ok(response.then),
+    };
+    replied.reserve(bytes.len())?;
+    match write_to(link, bytes.as_slice()) {
+        Ok(()) => {
+            keep(replied, bytes.as_slice());
+            Ok(response.then)
+        }
+        Err(Failed) => Ok(Then::End(SessionEnd::Fault)),
+    }
+}
+
+/// Says how a session goes on. At an end it closes the connection and makes the call Bye.
+pub(crate) fn finish<R: Copy, K: Link, T: Desk<R>>(
+    rt: R,
+    link: &mut K,
+    desk: &mut T,
+    then: Then,
+) -> Result<Next, AllocError>
+    requires { IsSession (T.caller desk.old) }
+    ensures caller { T.caller desk.new ≡ T.caller desk.old }
+    ensures finishes { IfOk result (λ next. Finishes then next (T.answers desk.old) (T.answers desk.new)
+        (T.stopped desk.old) (T.stopped desk.new)) }
+    ensures err { OnErr result (T.answers desk.new ≡ T.answers desk.old) }
+    ensures err_goes_on { OnErr result (T.stopped desk.new ≡ T.stopped desk.old) }
+    ensures closes { IfOk result (λ next. Closes next (K.closed link.old) (K.closed link.new)) }
+    ensures stays { StaysButClosed (K.left link.old) (K.left link.new) (K.gave link.old) (K.gave link.new)
+        (K.written link.old) (K.written link.new) (K.most link.old) (K.most link.new) (K.read_faults link.old)
+        (K.read_faults link.new) (K.write_faults link.old) (K.write_faults link.new) }
+{
+    match then {
+        Then::GoOn => Ok(Next::Answered),
+        Then::Stop => {
+            link.close();
+            Ok(Next::Ended(SessionEnd::Stopped))
+        }
+        Then::End(end) => {
+            link.close();
+            match desk.ask(rt, &ControlCall::Bye)? {
+                Ok(_) => Ok(Next::Ended(end)),
+                Err(Stopped) => Ok(Next::Ended(SessionEnd::Stopped)),
+            }
+        }
+    }
+}
