@@ -1,29 +1,27 @@
 -- A history and what is kept beside it, where one more entry is appended.
-use Rattle.std.proofs.Common.{◌≡◌, ℕ, ◌+◌, ◌-◌, ◌*◌, ◌<◌, ◌≤◌, Bool, true, false, List, [], ◌∷◌, ◌++◌, Option, None, Some, refl, sym, ◌∙◌, ap, subst, arith, suc, zero, length, take, inl, inr, ◌⊎◌}
-use Rattle.std.specs.Prelude.{cond, not, ◌==◌, ◌||◌, nat_lt, if◌then◌else◌, slice_get, sum_by, unwrap_or}
+use Rattle.std.proofs.Common.{◌≡◌, ℕ, ◌+◌, ◌*◌, ◌<◌, ◌≤◌, Bool, true, false, List, [], ◌∷◌, ◌++◌, Option, None, Some, refl, sym, ◌∙◌, ap, subst, arith, suc, zero, length, take, inl, inr, ◌⊎◌}
+use Rattle.std.specs.Prelude.{◌==◌, if◌then◌else◌, slice_get, unwrap_or}
 use Rattle.std.specs.Vec.{vec_capacity}
 use Rattle.std.proofs.lemmas.Bool.Decides.{nat_tests}
 use Rattle.std.proofs.lemmas.List.{take-append-le, length_push}
 use Rattle.std.proofs.lemmas.List.Sums.{sum_by-append}
 use Rattle.std.proofs.Math.Seq.{take-append_seam}
-use Rattle.chv_defs.specs.declared.bank.Span.{Span}
 use Rattle.chv_defs.specs.declared.bank.BankCall.{BankCall}
 use Rattle.chv_defs.specs.declared.bank.BankCall.TheVariants as call
 use Rattle.chv_defs.specs.declared.bank.BankReply.{BankReply}
 use Rattle.chv_defs.specs.declared.bank.BankReply.TheVariants as reply
 use Rattle.chv_defs.specs.declared.bank.BankEntry.{BankEntry}
-use Rattle.chv_defs.specs.declared.bank.Refusal.{Refusal}
 use Rattle.chv_defs.specs.declared.bank.Refusal.TheVariants as refusal
-use Rattle.chv_defs.specs.BankState.{pins_of, has_pin, is_owner_call, is_sealed, is_frozen, most_entries, most_payload, most_blocks, payload, payload_of, blocks_of, says_open, says_sealed, says_frozen}
+use Rattle.chv_defs.specs.BankState.{pins_of, has_pin, is_owner_call, is_sealed, is_frozen, most_entries, most_payload, payload, payload_of, blocks_of, says_open, says_sealed, says_frozen}
 use Rattle.chv_defs.specs.LastByte.{says_byte}
 use Rattle.chv_defs.specs.LegalBank.{IsNext, IsLegal, OwnerMay, IfAccess, NumbersPins, IfSeal, IfOwner, IsAccess, first_sealed, access_reply}
 use Rattle.chv_bank.specs.declared.state.State.{State}
 use Rattle.chv_bank.specs.declared.bank.Bank.TheInside.{Inside}
-use Rattle.chv_bank.specs.Bank.{BankBook, with_entry, owner_reply, is_unpin, HasItsNumber, HasWholePage, refusal_of, sealed_or_full, full, passes_limit, places_of, entries_taken, bytes_taken}
-use Rattle.chv_bank.specs.Caches.{IsStateAfter, Steps, IsFormed, pins_after}
+use Rattle.chv_bank.specs.Bank.{BankBook, with_entry, owner_reply, is_unpin, HasItsNumber, refusal_of, sealed_or_full, full, passes_limit, places_of}
+use Rattle.chv_bank.specs.Caches.{IsStateAfter, Steps, pins_after}
 use Rattle.chv_bank.specs.Kept.{IsKept}
 use Rattle.chv_bank.proofs.Latest.{is_open-push, is_sealed-push, is_frozen-push, last_byte-push}
-use Rattle.chv_bank.proofs.PinLists.{pins_of-push, fewer}
+use Rattle.chv_bank.proofs.PinLists.{pins_of-push}
 use Rattle.chv_bank.proofs.Ranges.{none_passes}
 
 -- ---- legality

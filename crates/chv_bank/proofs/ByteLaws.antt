@@ -1,19 +1,17 @@
 -- A closed block is not reached; what a block reads as after it was opened, and after a write.
-use Rattle.std.proofs.Common.{◌≡◌, ℕ, ◌+◌, ◌-◌, ◌*◌, ◌<◌, ◌≤◌, Bool, true, false, List, [], ◌∷◌, ◌++◌, Option, None, Some, refl, sym, ◌∙◌, ap, subst, arith, suc, zero, length, take, add-one}
-use Rattle.std.specs.Prelude.{slice_get, slice_index, not, ◌&&◌, ◌||◌, ◌==◌, nat_lt, find, cond, map, unwrap_or}
-use Rattle.std.specs.List.{list_all, range_with_len}
+use Rattle.std.proofs.Common.{◌≡◌, ℕ, ◌+◌, ◌<◌, ◌≤◌, Bool, true, false, List, Option, None, Some, refl, sym, ◌∙◌, ap, subst, arith, length, take, add-one}
+use Rattle.std.specs.Prelude.{slice_index, not, ◌&&◌, ◌==◌, unwrap_or}
+use Rattle.std.specs.List.{list_all}
 use Rattle.std.proofs.lemmas.Bool.Decides.{nat_tests}
 use Rattle.std.proofs.lemmas.List.FromFn.{get_or-map-range_with_len}
-use Rattle.chv_defs.specs.declared.bank.Span.{Span}
 use Rattle.chv_defs.specs.declared.bank.BankCall.{BankCall}
 use Rattle.chv_defs.specs.declared.bank.BankCall.TheVariants as call
 use Rattle.chv_defs.specs.declared.bank.BankReply.{BankReply}
 use Rattle.chv_defs.specs.declared.bank.BankReply.TheVariants as reply
 use Rattle.chv_defs.specs.declared.bank.BankEntry.{BankEntry}
-use Rattle.chv_defs.specs.PageContents.{is_inside}
-use Rattle.chv_defs.specs.BankState.{names, if_named, blocks_in, blocks_of, is_open, says_open}
+use Rattle.chv_defs.specs.BankState.{names, if_named, blocks_of, is_open, says_open}
 use Rattle.chv_defs.specs.LastByte.{last_byte, last_bytes, says_byte}
-use Rattle.chv_defs.specs.LegalBank.{IsNext, IsLegal, IfAccess, IsAccess, fault_or, access_reply, done_reply, first_closed}
+use Rattle.chv_defs.specs.LegalBank.{IsNext, IfAccess, IsAccess, fault_or, done_reply, first_closed}
 use Rattle.chv_bank.specs.Laws.{opens, reaches, is_fault, is_close, puts, replaces, IsClosedAt, IsLastWritten, ClosedBlocksAreNotReached, OpenedBlocksAreZero, ReadsGiveTheLastWrite}
 use Rattle.chv_bank.proofs.Latest.{is_open-push, last_byte-push}
 use Rattle.chv_bank.proofs.Ranges.{none_passes}

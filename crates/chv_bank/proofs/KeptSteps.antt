@@ -1,5 +1,5 @@
 -- What the type of a bank keeps, through each kind of call.
-use Rattle.std.proofs.Common.{◌≡◌, ℕ, ◌+◌, ◌-◌, ◌*◌, ◌<◌, ◌≤◌, Bool, true, false, List, [], ◌∷◌, ◌++◌, Option, None, Some, refl, sym, ◌∙◌, ap, subst, arith, length}
+use Rattle.std.proofs.Common.{◌≡◌, ℕ, ◌+◌, ◌*◌, ◌<◌, ◌≤◌, true, false, List, None, refl, sym, ◌∙◌, ap, subst, arith, length}
 use Rattle.std.specs.Prelude.{◌||◌, nat_lt}
 use Rattle.std.specs.Vec.{vec_capacity}
 use Rattle.std.proofs.lemmas.Bool.Decides.{nat_tests}
@@ -10,12 +10,12 @@ use Rattle.chv_defs.specs.declared.bank.BankReply.{BankReply}
 use Rattle.chv_defs.specs.declared.bank.BankReply.TheVariants as reply
 use Rattle.chv_defs.specs.declared.bank.BankEntry.{BankEntry}
 use Rattle.chv_defs.specs.PageContents.{Contents, byte_of}
-use Rattle.chv_defs.specs.BankState.{PinOut, pins_of, has_pin, is_owner_call, most_entries, most_payload, most_blocks, payload, payload_of}
+use Rattle.chv_defs.specs.BankState.{PinOut, pins_of, has_pin, is_owner_call, most_entries, most_payload, payload, payload_of}
 use Rattle.chv_defs.specs.LegalBank.{IsNext, IsLegal, OwnerMay, access_reply}
 use Rattle.chv_bank.specs.declared.state.State.{State}
 use Rattle.chv_bank.specs.declared.bank.Bank.TheInside.{Inside}
-use Rattle.chv_bank.specs.Bank.{BankBook, with_entry, owner_reply, is_unpin, pages_used, HasItsNumber, HasWholePage, refusal_of, passes_limit, places_of, entries_taken, bytes_taken}
-use Rattle.chv_bank.specs.Caches.{IsStateAfter, Steps, IsFormed, pins_after}
+use Rattle.chv_bank.specs.Bank.{BankBook, with_entry, owner_reply, is_unpin, pages_used, HasItsNumber, refusal_of, passes_limit, places_of, entries_taken, bytes_taken}
+use Rattle.chv_bank.specs.Caches.{IsStateAfter, Steps, pins_after}
 use Rattle.chv_bank.specs.Kept.{IsKept}
 use Rattle.chv_bank.proofs.Appended.{IsKept-entry, IsNext-owner, IsNext-access, IsNext-unpin, IsFree, free}
 use Rattle.chv_bank.proofs.PinLists.{fewer}

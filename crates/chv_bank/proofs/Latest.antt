@@ -1,6 +1,6 @@
 -- The latest entry that decides, where one more entry is appended.
-use Rattle.std.proofs.Common.{◌≡◌, ℕ, Bool, true, false, List, [], ◌∷◌, ◌++◌, Option, None, Some, refl, sym, ◌∙◌, ap}
-use Rattle.std.specs.Prelude.{cond, unwrap_or}
+use Rattle.std.proofs.Common.{◌≡◌, ℕ, false, List, [], ◌∷◌, ◌++◌, Option, None, Some, refl, sym, ◌∙◌, ap}
+use Rattle.std.specs.Prelude.{unwrap_or}
 use Rattle.chv_defs.specs.declared.bank.BankEntry.{BankEntry}
 use Rattle.chv_defs.specs.BankState.{later, latest, says_open, says_sealed, says_frozen, is_open, is_sealed, is_frozen}
 use Rattle.chv_defs.specs.LastByte.{last_byte, says_byte}

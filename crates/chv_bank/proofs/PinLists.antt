@@ -1,13 +1,12 @@
 -- The outstanding pins, where one more entry is appended.
 use Rattle.std.proofs.Common.{◌≡◌, ℕ, ◌≤◌, ◌<◌, ◌+◌, Bool, true, false, List, [], ◌∷◌, ◌++◌, Option, None, Some, refl, sym, ◌∙◌, ap, length, arith, suc, get_or, take}
-use Rattle.std.specs.Prelude.{cond, not, ◌==◌, ◌&&◌, ◌||◌, filter, map, if◌then◌else◌, min}
+use Rattle.std.specs.Prelude.{cond, not, ◌==◌, ◌&&◌, ◌||◌, filter, map, if◌then◌else◌}
 use Rattle.std.specs.List.{list_any}
 use Rattle.std.specs.Option.{option_to_list}
 use Rattle.std.proofs.lemmas.List.{append-nil, map-append}
 use Rattle.std.proofs.lemmas.List.Elements.{filter_more}
 use Rattle.std.proofs.lemmas.List.Folds.{list_any-append}
 use Rattle.std.proofs.lemmas.Bool.Decides.{nat_tests}
-use Rattle.chv_defs.specs.declared.bank.Span.{Span}
 use Rattle.chv_defs.specs.declared.bank.BankCall.{BankCall}
 use Rattle.chv_defs.specs.declared.bank.BankCall.TheVariants as call
 use Rattle.chv_defs.specs.declared.bank.BankReply.{BankReply}
@@ -16,7 +15,7 @@ use Rattle.chv_defs.specs.declared.bank.BankEntry.{BankEntry}
 use Rattle.chv_defs.specs.BankState.{PinOut, pins_of, pin_made, is_unpin_of, gives_back, unless_given_back, has_pin, lesser, lowest}
 use Rattle.chv_bank.specs.Bank.{with_entry}
 use Rattle.chv_bank.specs.Caches.{pins_after}
-use Rattle.chv_bank.proofs.Sets.{and_false, or_false}
+use Rattle.chv_bank.proofs.Sets.{and_false}
 
 -- the pins that an entry does not give back
 abbrev pub kept_by : BankEntry → List PinOut → List PinOut

@@ -1,6 +1,6 @@
 -- The first of a span's blocks that passes a test.
-use Rattle.std.proofs.Common.{◌≡◌, ℕ, ◌+◌, ◌-◌, ◌<◌, ◌≤◌, Bool, true, false, List, [], ◌∷◌, Option, None, Some, refl, sym, ◌∙◌, ap, arith, suc, zero}
-use Rattle.std.specs.Prelude.{cond, not, ◌&&◌, if◌then◌else◌, filter, find, map}
+use Rattle.std.proofs.Common.{◌≡◌, ℕ, ◌+◌, ◌-◌, ◌<◌, ◌≤◌, Bool, true, false, List, [], ◌∷◌, None, Some, refl, ◌∙◌, ap, arith, suc, zero}
+use Rattle.std.specs.Prelude.{cond, not, ◌&&◌, if◌then◌else◌, filter, find}
 use Rattle.std.specs.List.{range_with_len, list_all}
 use Rattle.chv_defs.specs.declared.bank.Span.{Span}
 use Rattle.chv_defs.specs.BankState.{belongs, blocks_in}

@@ -1,6 +1,6 @@
 -- The pages that are not all zero, by the bytes of a number of blocks.
-use Rattle.std.proofs.Common.{◌≡◌, ℕ, ◌+◌, ◌*◌, ◌/◌, ◌%◌, ◌<◌, ◌≤◌, Bool, true, false, List, [], ◌∷◌, Option, None, Some, refl, sym, ◌∙◌, ap, arith, suc, zero, length}
-use Rattle.std.specs.Prelude.{cond, if◌then◌else◌, map}
+use Rattle.std.proofs.Common.{◌≡◌, ℕ, ◌+◌, ◌*◌, ◌/◌, ◌%◌, ◌<◌, ◌≤◌, List, ◌∷◌, Option, None, Some, refl, ◌∙◌, ap, arith, suc, zero, length}
+use Rattle.std.specs.Prelude.{cond, map}
 use Rattle.std.specs.List.{range_with_len, filter_map, cons_option}
 use Rattle.chv_defs.specs.declared.bank.PageAt.{PageAt}
 use Rattle.chv_defs.specs.PageContents.{Contents, byte_at, page_bytes, page_numbered, is_blank, pages_of, AreExact}

@@ -1,8 +1,8 @@
 -- What holds of the entries before a place, from one place to another.
-use Rattle.std.proofs.Common.{◌≡◌, ℕ, ◌+◌, ◌<◌, ◌≤◌, Bool, true, false, List, [], ◌∷◌, ◌++◌, Option, None, Some, refl, sym, ◌∙◌, ap, subst, arith, suc, zero, length, take, inl, inr}
-use Rattle.std.specs.Prelude.{slice_get, not, ◌&&◌, ◌==◌, nat_lt, nat_le, filter, find, cond}
+use Rattle.std.proofs.Common.{◌≡◌, ℕ, ◌+◌, ◌<◌, ◌≤◌, Bool, true, false, List, [], ◌∷◌, ◌++◌, Some, refl, sym, ap, subst, arith, suc, zero, length, take, inl, inr}
+use Rattle.std.specs.Prelude.{slice_get, not, ◌&&◌, nat_lt, nat_le, filter, cond}
 use Rattle.std.specs.List.{list_all, range_with_len}
-use Rattle.std.proofs.lemmas.Bool.{cases_lt, cases_order}
+use Rattle.std.proofs.lemmas.Bool.{cases_lt}
 use Rattle.std.proofs.lemmas.Bool.Decides.{nat_tests}
 use Rattle.chv_defs.specs.declared.bank.BankEntry.{BankEntry}
 use Rattle.chv_defs.specs.declared.bank.Span.{Span}

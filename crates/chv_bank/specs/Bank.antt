@@ -1,5 +1,5 @@
 -- What contracts see of a bank, and what its calls answer.
-use Rattle.std.specs.Prelude.{◌≡◌, ℕ, ◌+◌, ◌*◌, ◌-◌, Bool, true, false, ◌||◌, nat_lt, min, if◌then◌else◌, List, [], ◌∷◌, ◌++◌, length, Option, None, Some, Result, Ok, Err}
+use Rattle.std.specs.Prelude.{◌≡◌, ℕ, ◌+◌, ◌*◌, Bool, true, false, ◌||◌, nat_lt, if◌then◌else◌, List, [], ◌∷◌, ◌++◌, length, Option, None, Some, Result, Ok, Err}
 use Rattle.chv_defs.specs.declared.bank.BankCall.{BankCall}
 use Rattle.chv_defs.specs.declared.bank.BankCall.TheVariants as call
 use Rattle.chv_defs.specs.declared.bank.BankReply.{BankReply}
@@ -7,10 +7,8 @@ use Rattle.chv_defs.specs.declared.bank.BankReply.TheVariants as reply
 use Rattle.chv_defs.specs.declared.bank.BankEntry.{BankEntry}
 use Rattle.chv_defs.specs.declared.bank.Refusal.{Refusal}
 use Rattle.chv_defs.specs.declared.bank.Refusal.TheVariants as refusal
-use Rattle.chv_defs.specs.declared.bank.Full.{Full}
-use Rattle.chv_defs.specs.declared.bank.BookId.{BookId}
 use Rattle.chv_defs.specs.declared.bank.BookId.TheVariants as book
-use Rattle.chv_defs.specs.BankState.{PinOut, pins_of, has_pin, is_frozen, most_entries, most_payload, payload, payload_of}
+use Rattle.chv_defs.specs.BankState.{pins_of, has_pin, is_frozen, most_entries, most_payload, payload, payload_of}
 use Rattle.chv_defs.specs.LegalBank.{first_sealed, seal_reply, page_count}
 
 -- a bank: which one it is, its history, and for how many entries and pages of its owner places are reserved

@@ -11,6 +11,8 @@ mod pins;
 mod sheets;
 mod state;
 mod steps;
+#[cfg(test)]
+mod tests;
 
 pub use bank::Bank;
 pub use laws::{

@@ -1,7 +1,4 @@
-use Rattle.std.proofs.Common.{◌≡◌, ◌+◌, ◌∙◌, sym, ap, false}
-use Rattle.std.specs.Prelude.{not}
-use Rattle.std.specs.List.{list_any}
-use Rattle.chv_defs.specs.BankState.{pins_block, belongs}
+use Rattle.std.proofs.Common.{◌+◌, ◌∙◌, sym}
 use Rattle.chv_defs.specs.BlockSets.{has}
 use Rattle.chv_bank.proofs.Ranges.{find_past, find_other}
 use Rattle.chv_bank.proofs.blocks.first_in.Goals as goal

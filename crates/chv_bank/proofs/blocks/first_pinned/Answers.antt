@@ -1,8 +1,6 @@
-use Rattle.std.proofs.Common.{◌≡◌, ◌+◌, ◌∙◌, sym, ap, false}
-use Rattle.std.specs.Prelude.{not}
+use Rattle.std.proofs.Common.{◌+◌, ◌∙◌, sym}
 use Rattle.std.specs.List.{list_any}
-use Rattle.chv_defs.specs.BankState.{pins_block, belongs}
-use Rattle.chv_defs.specs.BlockSets.{has}
+use Rattle.chv_defs.specs.BankState.{pins_block}
 use Rattle.chv_bank.proofs.Ranges.{find_past, find_other}
 use Rattle.chv_bank.proofs.blocks.first_pinned.Goals as goal
 use Rattle.chv_bank.proofs.blocks.first_pinned.Goals.{else-belongs-via-then-belongs+else-pins_block, else-belongs-via-else-belongs}

@@ -1,4 +1,4 @@
-use Rattle.std.proofs.Common.{◌≡◌, ◌∙◌, ap, arith, length}
+use Rattle.std.proofs.Common.{◌∙◌, ap, arith, length}
 use Rattle.chv_defs.specs.BankState.{most_blocks}
 use Rattle.chv_defs.specs.LastByte.{last_byte}
 use Rattle.chv_bank.proofs.ShownPages.{shown-is, shown-few}

@@ -1,4 +1,4 @@
-use Rattle.std.proofs.Common.{◌≡◌, ◌∙◌, sym, ap, Some}
+use Rattle.std.proofs.Common.{◌∙◌, sym, ap, Some}
 use Rattle.chv_defs.specs.BankState.{pins_block, lesser}
 use Rattle.chv_bank.proofs.PinLists.{least_more, least_same}
 use Rattle.chv_bank.proofs.pins.least_caller.Goals as goal

@@ -1,5 +1,4 @@
-use Rattle.std.proofs.Common.{◌≡◌, ◌∙◌, ap, false, length, ℕ}
-use Rattle.std.specs.Prelude.{IfOk}
+use Rattle.std.proofs.Common.{◌∙◌, ap, false, length}
 use Rattle.std.proofs.lemmas.Result.{IfOk-weaker}
 use Rattle.chv_defs.specs.BlockSets.{has}
 use Rattle.chv_bank.proofs.Sets.{has-numbers_where, len-numbers_where}

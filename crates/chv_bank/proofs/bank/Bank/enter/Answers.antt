@@ -1,7 +1,6 @@
-use Rattle.std.proofs.Common.{◌≡◌, ◌+◌, ◌≤◌, ◌∙◌, sym, ap, subst, arith, List, refl, None, length, vec_len}
+use Rattle.std.proofs.Common.{◌≡◌, ◌+◌, ◌≤◌, sym, ap, subst, arith, refl, None, length, vec_len}
 use Rattle.std.specs.Vec.{vec_capacity}
 use Rattle.std.proofs.lemmas.Grind.{common_steps}
-use Rattle.chv_defs.specs.BankState.{payload_of}
 use Rattle.chv_defs.specs.LegalBank.{access_reply}
 use Rattle.chv_bank.specs.Bank.{BankBook, with_entry, refusal_of, HasItsNumber}
 use Rattle.chv_bank.specs.declared.bank.Bank.TheInside.{Inside}

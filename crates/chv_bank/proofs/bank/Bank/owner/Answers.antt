@@ -1,7 +1,5 @@
-use Rattle.std.proofs.Common.{◌≡◌, ◌+◌, ◌-◌, ◌<◌, ◌∙◌, sym, ap, subst, arith, List, refl}
+use Rattle.std.proofs.Common.{◌≡◌, ◌+◌, ◌-◌, ◌<◌, sym, ap, subst, arith, refl}
 use Rattle.std.proofs.lemmas.Grind.{common_steps}
-use Rattle.chv_defs.specs.declared.bank.BankReply.{BankReply}
-use Rattle.chv_defs.specs.BankState.{payload_of}
 use Rattle.chv_defs.specs.LegalBank.{OwnerMay}
 use Rattle.chv_bank.specs.Bank.{BankBook, with_entry, owner_reply}
 use Rattle.chv_bank.specs.declared.bank.Bank.TheInside.{Inside}

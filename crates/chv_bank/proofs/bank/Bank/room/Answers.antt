@@ -1,4 +1,4 @@
-use Rattle.std.proofs.Common.{◌≡◌, ◌+◌, ◌*◌, ◌≤◌, ◌∙◌, sym, ap, subst, arith, List, refl, false, length, vec_len}
+use Rattle.std.proofs.Common.{◌≡◌, ◌+◌, ◌*◌, ◌≤◌, ◌∙◌, sym, ap, subst, arith, refl, false, length, vec_len}
 use Rattle.std.specs.Vec.{vec_capacity}
 use Rattle.chv_defs.specs.PageContents.{Contents}
 use Rattle.chv_defs.specs.BankState.{pins_of}

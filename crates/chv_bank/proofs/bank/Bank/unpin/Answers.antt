@@ -1,4 +1,4 @@
-use Rattle.std.proofs.Common.{◌≡◌, ◌∙◌, sym, ap, subst, arith, List, refl, true}
+use Rattle.std.proofs.Common.{◌≡◌, sym, subst, arith, refl, true}
 use Rattle.std.proofs.lemmas.Grind.{common_steps}
 use Rattle.chv_defs.specs.declared.bank.BankCall.TheVariants as call
 use Rattle.chv_defs.specs.declared.bank.BankReply.TheVariants as reply

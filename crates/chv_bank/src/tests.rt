@@ -1,0 +1,133 @@
+// An unplug from its pin to the next plug, the refusals in their order, and each call once with ample memory.
+ghost use Rattle.std.specs.Prelude.{◌≡◌, IfOk, length};
+
+use super::*;
+use chv_defs::{BankCall, BankReply, BookId, Bytes, Full, Refusal, Span};
+use std::alloc::{AllocError, Global};
+use std::test::Fail;
+
+#[test]
+fn an_unplug_waits_for_its_pin(rt: HostRuntime) -> Result<(), Fail> {
+    let span = Span { first: 1, count: 1 };
+    let mut bank = Bank::new(rt.alloc(), 0, 0)?;
+    bank.room(5, 0)??;
+    bank.owner(&BankCall::Shape(2));
+    let pinned = bank.access(1, &BankCall::Pin { number: 7, span })??;
+    assert_eq!(rt; pinned, BankReply::Pinned);
+    let busy = bank.owner(&BankCall::Seal(span));
+    assert_eq!(rt;
+        busy,
+        BankReply::Busy {
+            block: 1,
+            caller: 1
+        }
+    );
+    bank.access(1, &BankCall::Unpin { number: 7 })??;
+    assert_eq!(rt; bank.owner(&BankCall::Seal(span)), BankReply::Sealed);
+    assert_eq!(rt; bank.owner(&BankCall::Close(span)), BankReply::Closed);
+    Ok(())
+}
+
+#[test]
+fn a_block_that_is_plugged_again_reads_as_zero(rt: HostRuntime) -> Result<(), Fail> {
+    let alloc = rt.alloc();
+    let span = Span { first: 0, count: 1 };
+    let mut bank = Bank::new(alloc, 0, 0)?;
+    bank.room(4, 0)??;
+    bank.owner(&BankCall::Shape(1));
+    let write = BankCall::Write {
+        block: 0,
+        offset: 0,
+        bytes: Bytes::of(alloc, b"x")?,
+    };
+    bank.access(1, &write)??;
+    bank.owner(&BankCall::Seal(span));
+    bank.owner(&BankCall::Close(span));
+    bank.owner(&BankCall::Open(span));
+    let read = BankCall::Read {
+        block: 0,
+        offset: 0,
+        len: 1,
+    };
+    assert_eq!(rt;
+        bank.access(1, &read)??,
+        BankReply::Got(Bytes::of(alloc, b"\0")?)
+    );
+    Ok(())
+}
+
+#[test]
+fn frozen_before_sealed(rt: HostRuntime) -> Result<(), Fail> {
+    let span = Span { first: 0, count: 1 };
+    let read = BankCall::Read {
+        block: 0,
+        offset: 0,
+        len: 1,
+    };
+    let mut bank = Bank::new(rt.alloc(), 0, 0)?;
+    bank.room(4, 0)??;
+    bank.owner(&BankCall::Shape(1));
+    bank.owner(&BankCall::Seal(span));
+    bank.owner(&BankCall::Freeze);
+    assert_eq!(rt;
+        bank.access(1, &read)?.err(),
+        Some(Refusal::Frozen { seen: 3 })
+    );
+    bank.owner(&BankCall::Thaw);
+    assert_eq!(rt;
+        bank.access(1, &read)?.err(),
+        Some(Refusal::Sealed { block: 0, seen: 4 })
+    );
+    Ok(())
+}
+
+#[test]
+fn a_full_bank(rt: HostRuntime) -> Result<(), Fail> {
+    let mut bank = Bank::new(rt.alloc(), 0, 0)?;
+    assert!(rt; bank.room(1_048_577, 0)?.is_err());
+    bank.room(1, 4096)??;
+    let read = BankCall::Read {
+        block: 0,
+        offset: 0,
+        len: 1,
+    };
+    assert_eq!(rt;
+        bank.access(1, &read)?.err(),
+        Some(Refusal::Full(Full {
+            book: BookId::Bank { zone: 0, bank: 0 },
+            entries: 1,
+            bytes: 16_777_216,
+        }))
+    );
+    bank.give_back(0);
+    assert_eq!(rt; bank.history().len(), 0);
+    Ok(())
+}
+
+// A page of sevens.
+fn sevens(alloc: Global) -> Result<Bytes, AllocError>
+    ensures { IfOk result (λ bytes. length bytes ≡ 4096) }
+{
+    Ok(Bytes::new(vec![in alloc; 7; 4096]?))
+}
+
+#[test]
+fn pages_are_filled_and_shown(rt: HostRuntime) -> Result<(), Fail> {
+    let mut bank = Bank::new(rt.alloc(), 0, 0)?;
+    bank.room(6, 1)??;
+    bank.owner(&BankCall::Shape(1));
+    let fill = BankCall::Fill {
+        block: 0,
+        page: 3,
+        bytes: sevens(rt.alloc())?,
+    };
+    bank.owner(&fill);
+    bank.owner(&BankCall::Freeze);
+    assert_eq!(rt; bank.owner(&BankCall::Show), BankReply::Pages(1));
+    let pages = bank.pages()?;
+    assert_eq!(rt; pages.len(), 1);
+    bank.owner(&BankCall::Thaw);
+    bank.owner(&BankCall::Wipe);
+    assert!(rt; bank.pages()?.is_empty());
+    Ok(())
+}
