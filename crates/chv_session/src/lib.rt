@@ -13,3 +13,6 @@ pub use laws::{puts_its_replies, steps_make_a_session};
 pub use next::Next;
 pub use session::Session;
 pub use state::State;
+
+#[cfg(test)]
+mod tests;
