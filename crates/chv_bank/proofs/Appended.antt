@@ -14,6 +14,7 @@ use Rattle.chv_defs.specs.declared.bank.BankEntry.{BankEntry}
 use Rattle.chv_defs.specs.declared.bank.Refusal.TheVariants as refusal
 use Rattle.chv_defs.specs.BankState.{pins_of, has_pin, is_owner_call, is_sealed, is_frozen, most_entries, most_payload, payload, payload_of, blocks_of, says_open, says_sealed, says_frozen}
 use Rattle.chv_defs.specs.LastByte.{says_byte}
+use Rattle.chv_bank.proofs.ShownPages.{is-count}
 use Rattle.chv_defs.specs.LegalBank.{IsNext, IsLegal, OwnerMay, IfAccess, NumbersPins, IfSeal, IfOwner, IsAccess, first_sealed, access_reply}
 use Rattle.chv_bank.specs.declared.state.State.{State}
 use Rattle.chv_bank.specs.declared.bank.Bank.TheInside.{Inside}
@@ -65,7 +66,7 @@ owner_seal bank h c = tt
 owner_replied : (bank : ℕ) (h : List BankEntry) (c : BankCall) → IfOwner bank h c (owner_reply bank h c)
 owner_replied bank h (call.Seal span) = tt
 owner_replied bank h (call.Close span) = refl
-owner_replied bank h call.Show = refl
+owner_replied bank h call.Show = ap reply.Pages (is-count bank h)
 owner_replied bank h (call.Shape n) = refl
 owner_replied bank h call.Wipe = refl
 owner_replied bank h (call.Open span) = refl

@@ -3,6 +3,11 @@ use Rattle.std.proofs.Common.{◌≡◌, ℕ, ◌+◌, ◌*◌, ◌/◌, ◌%◌
 use Rattle.std.specs.Prelude.{cond, map}
 use Rattle.std.specs.List.{range_with_len, filter_map, cons_option}
 use Rattle.chv_defs.specs.declared.bank.PageAt.{PageAt}
+use Rattle.chv_defs.specs.declared.bank.BankEntry.{BankEntry}
+use Rattle.chv_defs.specs.BankState.{most_blocks}
+use Rattle.chv_defs.specs.LastByte.{last_byte}
+use Rattle.chv_defs.specs.LegalBank.{page_count}
+use Rattle.chv_bank.specs.Bank.{pages_shown, pages_counted}
 use Rattle.chv_defs.specs.PageContents.{Contents, byte_at, page_bytes, page_numbered, is_blank, pages_of, AreExact}
 
 -- bytes read by two readings that agree
@@ -27,7 +32,6 @@ listed_same f g blocks low (suc n) h e =
 
 -- the same bytes show the same pages
 pub pages_of_same : (blocks : ℕ) (f g : ℕ → ℕ → ℕ) → ((b at : ℕ) → b < blocks → f b at ≡ g b at) → pages_of blocks f ≡ pages_of blocks g
-unfolding pages_of
 pages_of_same blocks f g e = listed_same f g blocks 0 (blocks * 512) (omega arith) e
 
 cons_len : (o : Option PageAt) (ps : List PageAt) → length (cons_option o ps) ≤ length ps + 1
@@ -40,7 +44,6 @@ few f low (suc n) = omega (arith, cons_len (page_numbered f low) (filter_map (pa
 
 -- there are no more of them than pages
 pub pages_of_few : (blocks : ℕ) (f : ℕ → ℕ → ℕ) → length (pages_of blocks f) ≤ blocks * 512
-unfolding pages_of
 pages_of_few blocks f = few f 0 (blocks * 512)
 
 -- what memory shows, where it holds these bytes
@@ -50,3 +53,18 @@ shown-is memory blocks f exact e same = exact ∙ ap (λ n. pages_of n (byte_at 
 -- memory shows no more pages than it has
 pub shown-few : (memory : Contents) (blocks : ℕ) → AreExact memory → memory.blocks ≡ blocks → length memory.pages ≤ blocks * 512
 shown-few memory blocks exact e = omega (arith, ap length exact, ap (λ n. n * 512) e, pages_of_few memory.blocks (byte_at memory))
+
+-- the pages of a bank's history, where memory holds its bytes
+pub history-shown : (memory : Contents) (bank : ℕ) (history : List BankEntry) → AreExact memory → memory.blocks ≡ most_blocks → ((b at : ℕ) → b < most_blocks → byte_at memory b at ≡ last_byte bank history b at) → memory.pages ≡ pages_shown bank history
+unfolding pages_shown
+history-shown memory bank history exact e same = shown-is memory most_blocks (last_byte bank history) exact e same
+
+-- and how many they are
+pub history-counted : (memory : Contents) (bank : ℕ) (history : List BankEntry) → AreExact memory → memory.blocks ≡ most_blocks → ((b at : ℕ) → b < most_blocks → byte_at memory b at ≡ last_byte bank history b at) → length memory.pages ≡ pages_counted bank history
+unfolding pages_counted
+history-counted memory bank history exact e same = ap length (shown-is memory most_blocks (last_byte bank history) exact e same)
+
+-- the count is that of the definition
+pub is-count : (bank : ℕ) (history : List BankEntry) → pages_counted bank history ≡ page_count bank history
+unfolding pages_counted
+is-count bank history = refl

@@ -8,7 +8,10 @@ use Rattle.chv_defs.specs.declared.bank.BankEntry.{BankEntry}
 use Rattle.chv_defs.specs.declared.bank.Refusal.{Refusal}
 use Rattle.chv_defs.specs.declared.bank.Refusal.TheVariants as refusal
 use Rattle.chv_defs.specs.declared.bank.BookId.TheVariants as book
-use Rattle.chv_defs.specs.BankState.{pins_of, has_pin, is_frozen, most_entries, most_payload, payload, payload_of}
+use Rattle.chv_defs.specs.BankState.{pins_of, has_pin, is_frozen, most_blocks, most_entries, most_payload, payload, payload_of}
+use Rattle.chv_defs.specs.declared.bank.PageAt.{PageAt}
+use Rattle.chv_defs.specs.PageContents.{pages_of}
+use Rattle.chv_defs.specs.LastByte.{last_byte}
 use Rattle.chv_defs.specs.LegalBank.{first_sealed, seal_reply, page_count}
 
 -- a bank: which one it is, its history, and for how many entries and pages of its owner places are reserved
@@ -77,11 +80,19 @@ HasItsNumber before caller c = Unit {0}
 
 -- ---- the owner's calls
 
+-- the pages that are not all zero, ascending, by the last byte that was written at each place
+unfoldable pub pages_shown : ℕ → List BankEntry → List PageAt
+pages_shown bank history = pages_of most_blocks (last_byte bank history)
+
+-- how many there are
+unfoldable pub pages_counted : ℕ → List BankEntry → ℕ
+pages_counted bank history = page_count bank history
+
 -- the reply to a call of the owner
 abbrev pub owner_reply : ℕ → List BankEntry → BankCall → BankReply
 owner_reply bank before (call.Seal span) = seal_reply bank before (call.Seal span)
 owner_reply bank before (call.Close span) = reply.Closed
-owner_reply bank before call.Show = reply.Pages (page_count bank before)
+owner_reply bank before call.Show = reply.Pages (pages_counted bank before)
 owner_reply bank before c = reply.Done
 
 -- how many reserved pages a call uses

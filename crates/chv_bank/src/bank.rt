@@ -1,8 +1,6 @@
 // The bank.
 ghost use Rattle.std.specs.Prelude.{◌≡◌, ◌+◌, ◌-◌, ◌<◌, ◌≤◌, ◌^◌, List, [], ◌∷◌, ◌++◌, true, false, None, min, IfOk, IfErr, IsOk, OnOk, OnErr, MatchResult, length};
-ghost use Rattle.chv_defs.specs.BankState.{banks, is_owner_call, most_blocks, IsCall};
-ghost use Rattle.chv_defs.specs.PageContents.{pages_of};
-ghost use Rattle.chv_defs.specs.LastByte.{last_byte};
+ghost use Rattle.chv_defs.specs.BankState.{banks, is_owner_call, IsCall};
 ghost use Rattle.chv_defs.specs.LegalBank.{access_reply, IsLegal, OwnerMay};
 ghost use Rattle.chv_defs.specs.declared.bank.BankCall.TheVariants as call;
 ghost use Rattle.chv_defs.specs.declared.bank.BankReply.TheVariants as reply;
@@ -55,7 +53,7 @@ impl Model for Bank {
 }
 
 impl Bank {
-    ghost use Rattle.chv_bank.specs.Bank.{bytes_taken, entries_taken, fresh, full, is_unpin, owner_reply, pages_used, passes_limit, refusal_of, refused_or, room_refusal, with_entry, HasItsNumber};
+    ghost use Rattle.chv_bank.specs.Bank.{bytes_taken, entries_taken, fresh, full, is_unpin, owner_reply, pages_shown, pages_used, passes_limit, refusal_of, refused_or, room_refusal, with_entry, HasItsNumber};
 
     /// A bank to which nothing happened yet.
     pub fn new(alloc: Global, zone: u8, bank: u8) -> Result<Bank, AllocError>
@@ -267,7 +265,7 @@ impl Bank {
 
     /// The pages that are not all zero, ascending by block and page: each byte is the last that was written.
     pub fn pages(&self) -> Result<Row<PageAt>, AllocError>
-        ensures { IfOk result (λ pages. pages ≡ pages_of most_blocks (last_byte self.now.bank self.now.history)) }
+        ensures { IfOk result (λ pages. pages ≡ pages_shown self.now.bank self.now.history) }
     {
         self.state.memory.list()
     }

@@ -3,8 +3,8 @@ ghost use Rattle.std.specs.Prelude.{◌≡◌, ◌+◌, ◌<◌, ◌≤◌, List
 ghost use Rattle.chv_defs.specs.declared.bank.BankCall.TheVariants as call;
 ghost use Rattle.chv_defs.specs.declared.bank.BankEntry.{BankEntry};
 ghost use Rattle.chv_defs.specs.BankState.{is_owner_call, most_blocks, IsCall, IsInZone};
-ghost use Rattle.chv_defs.specs.LegalBank.{page_count, seal_reply};
-ghost use Rattle.chv_bank.specs.Bank.{owner_reply, pages_used, HasWholePage};
+ghost use Rattle.chv_defs.specs.LegalBank.{seal_reply};
+ghost use Rattle.chv_bank.specs.Bank.{owner_reply, pages_counted, pages_used, HasWholePage};
 ghost use Rattle.chv_bank.specs.Caches.{IsFormed, IsStateAfter, Steps};
 
 use crate::blocks::first_pinned;
@@ -67,7 +67,7 @@ fn serve_seal(state: &mut State, bank: u8, span: Span) -> BankReply
 // How many pages are not all zero.
 fn shown_pages(state: &State, bank: u8) -> u32
     requires formed { IsFormed state.now }
-    ensures { (before : List BankEntry) → IsStateAfter bank before state.now → result ≡ page_count bank before }
+    ensures { (before : List BankEntry) → IsStateAfter bank before state.now → result ≡ pages_counted bank before }
 {
     state.memory.count() as u32
 }
