@@ -1,10 +1,9 @@
 // The names of snapshots, in the URLs that requests give.
 ghost use Rattle.std.specs.Prelude.{◌≡◌, IfOk};
-ghost use Rattle.chv_defs.specs.ConfigRules as rules;
 ghost use Rattle.chv_defs.specs.Routes as routes;
 ghost use Rattle.chv_api.specs.Snapshots as snapshots;
 
-use chv_defs::{Name, Rule, Text};
+use chv_defs::{Name, Rule, Text, last_component};
 use chv_json::text_of;
 use std::alloc::{AllocError, Global};
 
@@ -15,16 +14,6 @@ fn without_final_slash(url: &str) -> &str
     match url.strip_suffix('/') {
         Some(front) => front,
         None => url,
-    }
-}
-
-// What follows the last `/` of a path, or the whole path where there is none.
-fn last_component(path: &str) -> &str
-    ensures { result.now ≡ rules.last_component path.now }
-{
-    match path.rsplit_once('/') {
-        Some((_, last)) => last,
-        None => path,
     }
 }
 

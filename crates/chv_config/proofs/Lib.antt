@@ -1,4 +1,3 @@
-pub mod Components
 pub mod Firsts
 pub mod DefaultIds
 pub mod Twice

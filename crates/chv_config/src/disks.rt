@@ -2,8 +2,8 @@
 ghost use Rattle.std.specs.Prelude.{◌≡◌, IfOk, map};
 ghost use Rattle.chv_defs.specs.ConfigRules.{disk_name, has_bad_id, has_odd_queue};
 
-use crate::texts::{is_id, last_component};
-use chv_defs::{DiskConfig, Name, Row, Text};
+use crate::texts::is_id;
+use chv_defs::{DiskConfig, Name, Row, Text, last_component};
 use std::alloc::{AllocError, Global};
 
 const QUEUE_SIZES: [u64; 11] = [1, 2, 4, 8, 16, 32, 64, 128, 256, 512, 1024];

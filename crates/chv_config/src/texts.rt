@@ -1,7 +1,7 @@
 // Lists of texts: identifiers, names, and whether one stands twice.
 ghost use Rattle.std.specs.Prelude.{◌≡◌, ◌==◌, ◌&&◌, IfOk, length, nat_le};
 ghost use Rattle.std.specs.List.{list_all, list_any};
-ghost use Rattle.chv_defs.specs.ConfigRules.{has_text, has_twice, last_component};
+ghost use Rattle.chv_defs.specs.ConfigRules.{has_text, has_twice};
 ghost use Rattle.chv_defs.specs.Id.{is_id, is_id_byte};
 
 use chv_defs::Text;
@@ -63,14 +63,4 @@ fn is_id_byte(byte: u8) -> bool
         || (97 <= byte && byte <= 122)
         || byte == b'_'
         || byte == b'-'
-}
-
-/// What follows the last `/` of a path, or the whole path where there is none.
-pub fn last_component(path: &str) -> &str
-    ensures { result.now ≡ last_component path.now }
-{
-    match path.rsplit_once('/') {
-        Some((_, last)) => last,
-        None => path,
-    }
 }

@@ -1,37 +1,151 @@
--- The calls of the API on the control machine: by which rule a call is refused, what it is answered, and what it
--- leaves. Built so far are Ping, Info, Create of the default configuration, and Bye.
-use Rattle.std.specs.Prelude.{◌≡◌, ℕ, Bool, not, List, [], ◌∷◌, Option, Some, None, is_some, if◌then◌else◌, nat_lt, ◌==◌}
+-- The calls of the API on a machine that is not booted: by which rule a call is refused, what it is answered, and what it
+-- leaves. The calls are those of the Cloud Hypervisor REST API v1; the rules and their order are this project's own. Boot
+-- and Restore are not built yet: where none of their rules holds, they are refused as NotBuilt.
+use Rattle.std.specs.Prelude.{ℕ, ◌+◌, ◌==◌, Bool, true, false, not, nat_le, nat_lt, List, [], ◌∷◌, ◌++◌, length, map, filter, Option, Some, None, is_some, unwrap_or, if◌then◌else◌}
+use Rattle.std.specs.Str.{bytes_eq}
 use Rattle.chv_defs.specs.declared.machine.Machine.{Machine}
+use Rattle.chv_defs.specs.declared.machine.Life.{Life}
 use Rattle.chv_defs.specs.declared.machine.Life.TheVariants as life
+use Rattle.chv_defs.specs.declared.config.Checked.{Checked}
+use Rattle.chv_defs.specs.declared.config.DiskConfig.{DiskConfig}
+use Rattle.chv_defs.specs.declared.scene.OnShelf.{OnShelf}
 use Rattle.chv_defs.specs.declared.rule.Rule.{Rule}
-use Rattle.chv_defs.specs.declared.rule.Rule.TheVariants.{NotCreated, AlreadyCreated}
+use Rattle.chv_defs.specs.declared.rule.Rule.TheVariants.{NotCreated, AlreadyCreated, Held, NotBooted, AlreadyBooted, NotRunning, NotPaused, DeviceUnknown, DeviceFixed, SlotsFull, NotBuilt}
+use Rattle.chv_defs.specs.declared.control.Goal.TheVariants.{Pause, Shutdown, Delete}
 use Rattle.chv_defs.specs.declared.control.ControlCall.{ControlCall}
 use Rattle.chv_defs.specs.declared.control.ControlCall.TheVariants as call
 use Rattle.chv_defs.specs.declared.control.ControlReply.{ControlReply}
 use Rattle.chv_defs.specs.declared.control.ControlReply.TheVariants as reply
 use Rattle.chv_defs.specs.Shown.{shown}
-use Rattle.chv_defs.specs.ConfigRules.{checked_of, config_rules, first_broken}
+use Rattle.chv_defs.specs.ConfigRules.{checked_of, config_rules, device_ids, first_broken, further_disk_rules, grows, has_text, memory_device_ids, with_disk, with_id}
 use Rattle.chv_defs.specs.DefaultConfig.{default_config}
 
--- the calls that are built
-abbrev pub IsBuilt : ControlCall → Type 0
-IsBuilt call.Ping = Unit {0}
-IsBuilt call.Info = Unit {0}
-IsBuilt (call.Create config) = config ≡ default_config
-IsBuilt call.Bye = Unit {0}
-IsBuilt _ = ⊥
+-- ---- conditions
 
--- The rules of a built call in order, each beside its condition. No disk stands by so far.
-abbrev pub rules_of : Machine → ControlCall → List (Bool × Rule)
-rules_of m call.Info = (not (is_some m.config), NotCreated) ∷ []
-rules_of m (call.Create config) = (is_some m.config, AlreadyCreated) ∷ config_rules [] config
-rules_of m _ = []
+-- the names of the disks that stand by
+abbrev pub names_of : List OnShelf → List (List ℕ)
+names_of shelf = map (λ (disk : OnShelf). disk.name) shelf
 
--- the rule by which a built call is refused: the first whose condition holds
-abbrev pub refusal_of : Machine → ControlCall → Option Rule
-refusal_of m c = first_broken (rules_of m c)
+-- there is no configuration
+abbrev pub is_uncreated : Machine → Bool
+is_uncreated m = not (is_some m.config)
 
--- the answer to a built call that no rule refuses
+-- a pause, a shutdown or a delete is under way
+abbrev pub is_on_hold : Life → Bool
+is_on_hold (life.Hold holder goal) = true
+is_on_hold _ = false
+
+-- the machine was created or shut down, and is not booted
+abbrev pub is_unbooted : Life → Bool
+is_unbooted life.Created = true
+is_unbooted life.Shutdown = true
+is_unbooted _ = false
+
+-- the machine runs, or is paused
+abbrev pub is_booted : Life → Bool
+is_booted life.Running = true
+is_booted life.Paused = true
+is_booted _ = false
+
+-- the machine runs
+abbrev pub is_running : Life → Bool
+is_running life.Running = true
+is_running _ = false
+
+-- the machine is paused
+abbrev pub is_paused : Life → Bool
+is_paused life.Paused = true
+is_paused _ = false
+
+-- The configuration. (It is asked of no state that has none.)
+abbrev pub now_of : Machine → Checked
+now_of m = unwrap_or m.config (checked_of default_config)
+
+-- how many devices a configuration has: one for each zone in effect that grows, and its disks
+abbrev pub device_count : Checked → ℕ
+device_count now = length (filter grows now.zones) + length now.config.disks
+
+-- all 31 slots for devices would be used at boot
+abbrev pub has_full_slots : Checked → Bool
+has_full_slots now = nat_le 31 (device_count now)
+
+-- ---- the rules of each call
+
+-- The rules of a call in their order, each beside its condition, where these disks stand by.
+abbrev pub rules_of : List OnShelf → Machine → ControlCall → List (Bool × Rule)
+rules_of shelf m call.Info =
+    (is_uncreated m, NotCreated)
+    ∷ []
+rules_of shelf m call.Counters =
+    (is_uncreated m, NotCreated)
+    ∷ (is_unbooted m.life, NotBooted)
+    ∷ []
+rules_of shelf m (call.Create config) =
+    (is_some m.config, AlreadyCreated)
+    ∷ config_rules (names_of shelf) config
+rules_of shelf m call.Boot =
+    (is_uncreated m, NotCreated)
+    ∷ (is_on_hold m.life, Held)
+    ∷ (is_booted m.life, AlreadyBooted)
+    ∷ (true, NotBuilt)
+    ∷ []
+rules_of shelf m (call.Begin Pause) =
+    (is_uncreated m, NotCreated)
+    ∷ (is_on_hold m.life, Held)
+    ∷ (not (is_running m.life), NotRunning)
+    ∷ []
+rules_of shelf m (call.Begin Shutdown) =
+    (is_uncreated m, NotCreated)
+    ∷ (is_on_hold m.life, Held)
+    ∷ (is_unbooted m.life, NotBooted)
+    ∷ []
+rules_of shelf m (call.Begin Delete) =
+    (is_uncreated m, NotCreated)
+    ∷ (is_on_hold m.life, Held)
+    ∷ []
+rules_of shelf m call.Resume =
+    (is_uncreated m, NotCreated)
+    ∷ (is_on_hold m.life, Held)
+    ∷ (not (is_paused m.life), NotPaused)
+    ∷ []
+-- (what else refuses a resize is asked of a booted machine)
+rules_of shelf m (call.Resize vcpus ram) =
+    (is_uncreated m, NotCreated)
+    ∷ (is_unbooted m.life, NotBooted)
+    ∷ []
+rules_of shelf m (call.ResizeZone zone ram) =
+    (is_uncreated m, NotCreated)
+    ∷ (is_unbooted m.life, NotBooted)
+    ∷ []
+rules_of shelf m (call.AddDisk disk) =
+    (is_uncreated m, NotCreated)
+    ∷ (further_disk_rules (names_of shelf) (now_of m) disk
+    ++ (has_full_slots (now_of m), SlotsFull)
+    ∷ [])
+rules_of shelf m (call.Remove id) =
+    (is_uncreated m, NotCreated)
+    ∷ (not (has_text (device_ids (now_of m)) id), DeviceUnknown)
+    ∷ (has_text (memory_device_ids (now_of m).zones) id, DeviceFixed)
+    ∷ []
+-- (the vault is asked where the machine is paused)
+rules_of shelf m (call.Snapshot name) =
+    (is_uncreated m, NotCreated)
+    ∷ (is_on_hold m.life, Held)
+    ∷ (not (is_paused m.life), NotPaused)
+    ∷ []
+rules_of shelf m (call.Restore name) =
+    (is_some m.config, AlreadyCreated)
+    ∷ (true, NotBuilt)
+    ∷ []
+rules_of shelf m _ = []
+
+-- the rule by which a call is refused: the first whose condition holds
+abbrev pub refusal_of : List OnShelf → Machine → ControlCall → Option Rule
+refusal_of shelf m c = first_broken (rules_of shelf m c)
+
+-- ---- answers
+
+-- the answer to a call that no rule refuses
 abbrev pub success_of : Machine → ControlCall → ControlReply
 success_of m call.Info = reply.Shown (shown m)
 success_of m _ = reply.Done
@@ -41,17 +155,35 @@ abbrev pub refused_or : Option Rule → ControlReply → ControlReply
 refused_or (Some rule) success = reply.Ruled rule
 refused_or None success = success
 
--- the answer to a built call
-abbrev pub reply_to : Machine → ControlCall → ControlReply
-reply_to m c = refused_or (refusal_of m c) (success_of m c)
+-- the answer to a call
+abbrev pub reply_to : List OnShelf → Machine → ControlCall → ControlReply
+reply_to shelf m c = refused_or (refusal_of shelf m c) (success_of m c)
+
+-- ---- what calls leave
 
 -- ascending numbers, with one that is there from now on
 abbrev pub with_number : ℕ → List ℕ → List ℕ
 with_number n [] = n ∷ []
 with_number n (m ∷ ms) = if nat_lt n m then n ∷ m ∷ ms else (if n == m then m ∷ ms else m ∷ with_number n ms)
 
--- What a built call leaves, with its answer. A call that is refused leaves the state as it was.
+-- whether a disk has this id; every disk of a configuration that is kept has one
+abbrev pub has_id : List ℕ → DiskConfig → Bool
+has_id id disk = bytes_eq (unwrap_or disk.id []) id
+
+-- a configuration without the disk of this id, the disks behind it moving up
+abbrev pub without_disk : Checked → List ℕ → Checked
+without_disk now id = record now { config = record now.config { disks = filter (λ disk. not (has_id id disk)) now.config.disks } }
+
+-- a configuration with a further disk behind the others, its id set
+abbrev pub with_new_disk : Checked → DiskConfig → Checked
+with_new_disk now disk = with_disk now (with_id (device_ids now) disk)
+
+-- What a call leaves, with its answer. A call that is refused leaves the state as it was, and so does one that only asks.
 abbrev pub after : Machine → ℕ → ControlCall → ControlReply → Machine
 after m caller (call.Create config) reply.Done = record m { life = life.Created; config = Some (checked_of config) }
+after m caller (call.Begin Delete) reply.Done = record m { life = life.None; config = None }
+after m caller (call.AddDisk disk) reply.Done = record m { config = Some (with_new_disk (now_of m) disk) }
+after m caller (call.Remove id) reply.Done = record m { config = Some (without_disk (now_of m) id) }
 after m caller call.Bye reply.Done = record m { ended = with_number caller m.ended }
+after m caller call.Stop reply.Done = record m { stopped = true }
 after m caller _ _ = m

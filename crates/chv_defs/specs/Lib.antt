@@ -3,6 +3,7 @@ pub mod ApiStep
 pub mod BankState
 pub mod BlockSets
 pub mod ConfigRules
+pub mod ControlBook
 pub mod ControlStep
 pub mod DefaultConfig
 pub mod Desks

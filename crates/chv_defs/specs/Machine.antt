@@ -1,6 +1,9 @@
 -- The control state before anything happened, and what holds of every control state.
-use Rattle.std.specs.Prelude.{◌≡◌, ◌≤◌, ◌<◌, ◌↔◌, ℕ, List, [], ◌∷◌, None, false}
+use Rattle.std.specs.Prelude.{◌≡◌, ◌≤◌, ◌<◌, ◌^◌, ◌↔◌, ℕ, List, [], ◌∷◌, Option, None, Some, false, sum_by}
+use Rattle.chv_defs.specs.declared.config.ZoneConfig.{ZoneConfig}
+use Rattle.chv_defs.specs.declared.config.Checked.{Checked}
 use Rattle.chv_defs.specs.declared.machine.Machine.{Machine}
+use Rattle.chv_defs.specs.declared.machine.Life.{Life}
 use Rattle.chv_defs.specs.declared.machine.Life.TheVariants as life
 
 -- The empty state: there is no machine, and no session has ended.
@@ -16,8 +19,22 @@ abbrev pub AreSessionsAbove : ℕ → List ℕ → Type 0
 AreSessionsAbove low [] = Unit {0}
 AreSessionsAbove low (caller ∷ callers) = (low < caller) × (caller ≤ 16) × AreSessionsAbove caller callers
 
--- A control state is well formed where it has a configuration exactly where there is a machine, and the ended ones are
--- sessions, ascending.
+-- There is no machine, or it was created or shut down: it is not booted. Booting is not built yet.
+abbrev pub IsUnbooted : Life → Type 0
+IsUnbooted life.None = Unit {0}
+IsUnbooted life.Created = Unit {0}
+IsUnbooted life.Shutdown = Unit {0}
+IsUnbooted _ = ⊥
+
+-- The sizes of the zones of a configuration, in bytes, sum below 2^64.
+abbrev pub HasSmallZones : Option Checked → Type 0
+HasSmallZones None = Unit {0}
+HasSmallZones (Some checked) = sum_by (λ (zone : ZoneConfig). zone.size) checked.zones < 2 ^ 64
+
+-- A control state is well formed where it has a configuration exactly where there is a machine, the machine is not
+-- booted, the sizes of its zones fit their sum, and the ended ones are sessions, ascending.
 pub record IsWellFormed (m : Machine) : Type 0 where
   pub life_and_config : (m.life ≡ life.None) ↔ (m.config ≡ None)
+  pub unbooted : IsUnbooted m.life
+  pub small : HasSmallZones m.config
   pub sessions : AreSessionsAbove 0 m.ended

@@ -3,6 +3,9 @@
 use Rattle.std.specs.Prelude.{ℕ, List, [], ◌∷◌, ◌++◌, codes}
 use Rattle.chv_defs.specs.Numbers.{dec_text}
 use Rattle.chv_defs.specs.Reasons.{reason_name}
+use Rattle.chv_defs.specs.ScriptText.{field}
+use Rattle.chv_defs.specs.TraceText.{book_text}
+use Rattle.chv_defs.specs.declared.bank.Full.{Full}
 use Rattle.chv_defs.specs.declared.rule.Reason.{Reason}
 
 -- the word that plays a scenario on one thread
@@ -16,6 +19,14 @@ usage_line = codes "chv: usage\n"
 -- the line for an input that cannot be read
 unfoldable pub read_fault_line : List ℕ
 read_fault_line = codes "chv: read fault\n"
+
+-- the line for an input that is longer than 16,777,216 bytes
+unfoldable pub too_long_line : List ℕ
+too_long_line = codes "chv: too long\n"
+
+-- the line for a book that is full: which one, and how many entries and bytes of payload it holds
+abbrev pub full_line : Full → List ℕ
+full_line full = codes "chv: full" ++ field (book_text full.book) ++ field (dec_text full.entries) ++ field (dec_text full.bytes) ++ codes "\n"
 
 -- the line for a scenario that is refused: the first line that fails, and why
 abbrev pub scene_fault_line : ℕ → Reason → List ℕ

@@ -1,11 +1,10 @@
 -- The routes of the API (Cloud Hypervisor REST API v1; the bodies of `vmm.ping` and of a refusal are this project's own):
 -- which control call a request makes, and which reply the answer to it is.
-use Rattle.std.specs.Prelude.{ℕ, ◌&&◌, ◌==◌, Bool, false, List, [], ◌∷◌, ◌++◌, length, take, drop, codes, Option, None, Some, Result, Ok, Err, if◌then◌else◌}
+use Rattle.std.specs.Prelude.{ℕ, ◌==◌, Bool, List, [], ◌∷◌, ◌++◌, length, take, drop, codes, Option, None, Some, Result, Ok, Err, if◌then◌else◌}
 use Rattle.std.specs.Str.{bytes_eq}
 use Rattle.chv_defs.specs.ConfigRules.{last_component}
 use Rattle.chv_defs.specs.Name.{is_name}
 use Rattle.chv_defs.specs.JsonBodies.{◌>>=◌, config_of, disk_of, resize_of, zone_of, text_of}
-use Rattle.chv_defs.specs.DefaultConfig.{default_config}
 use Rattle.chv_defs.specs.JsonTexts.{info_text, counters_text, device_text}
 use Rattle.chv_defs.specs.Rules.{rule_name, rule_status}
 use Rattle.chv_defs.specs.Replies.{reply_of_status}
@@ -17,9 +16,6 @@ use Rattle.chv_defs.specs.declared.control.ControlCall.{ControlCall}
 use Rattle.chv_defs.specs.declared.control.ControlCall.TheVariants as call
 use Rattle.chv_defs.specs.declared.control.ControlReply.{ControlReply}
 use Rattle.chv_defs.specs.declared.control.ControlReply.TheVariants as reply
-use Rattle.chv_defs.specs.declared.control.ControlEntry.{ControlEntry}
-use Rattle.chv_defs.specs.declared.scene.Asked.{Asked}
-use Rattle.chv_defs.specs.declared.scene.Asked.TheVariants as asked
 
 -- ---- requests
 
@@ -74,19 +70,6 @@ call_named request (Some name) = if request.get then get_call name else (if requ
 unfoldable pub call_of_request : Request → Result ControlCall Rule
 call_of_request request = call_named request (route_name request.target)
 
--- ---- requests of a scenario that are built
-
--- the control call that a request of a scenario makes, where its route is built: so far `vmm.ping`, `vm.info`, and
--- `vm.create` with the body `{}`
-abbrev pub call_of : Asked → Option ControlCall
-call_of (asked.Get name) =
-    if bytes_eq name (codes "vmm.ping") then Some call.Ping else
-    (if bytes_eq name (codes "vm.info") then Some call.Info else None)
-call_of (asked.Put name (Some body)) =
-    if bytes_eq name (codes "vm.create") && bytes_eq body (codes "{}") then Some (call.Create default_config) else None
-call_of (asked.Put name None) = None
-call_of (asked.Raw bytes) = None
-
 -- ---- replies
 
 -- the body of `vmm.ping`
@@ -106,10 +89,6 @@ status_and_body c (reply.Counted counts) = (200, Some (counters_text counts))
 status_and_body c (reply.Added id slot) = (200, Some (device_text (record { slot = slot; id = id })))
 status_and_body call.Ping r = (200, Some ping_body)
 status_and_body c r = (204, None)
-
--- the bytes of the reply to a request whose call was answered so, and after which the connection stays open
-abbrev pub reply_of : ControlEntry → List ℕ
-reply_of e = let answer = status_and_body e.call e.reply in reply_of_status answer.0 answer.1 false
 
 -- The bytes of the reply to a request of which the last call was answered so. The `last` reply of a connection says so.
 abbrev pub reply_to_call : ControlCall → ControlReply → Bool → List ℕ

@@ -1,56 +1,237 @@
--- The serial schedule, which is this project's own: from a scenario the one trace that `play` gives. So far a scenario has one session, whose
--- requests are played one after another, and then its Bye.
-use Rattle.std.specs.Prelude.{◌≡◌, ℕ, List, [], ◌∷◌, ◌++◌, flat_map}
-use Rattle.std.specs.List.{filter_map}
+-- The serial schedule, which is this project's own: from a scenario's sessions, and the disks that stand by, the one trace
+-- that `play` gives, or the first book that is full.
+use Rattle.std.specs.Prelude.{ℕ, zero, suc, ◌+◌, ◌==◌, ◌&&◌, Bool, true, false, nat_lt, nat_le, max, if◌then◌else◌, List, [], ◌∷◌, ◌++◌, length, take, drop, map, filter, flat_map, slice_get, Option, None, Some, Result, Ok, Err}
+use Rattle.std.specs.List.{filter_map, range_with_len, enumerate_from}
+use Rattle.chv_defs.specs.declared.rule.Rule.{Rule}
+use Rattle.chv_defs.specs.declared.bank.Full.{Full}
+use Rattle.chv_defs.specs.declared.request.Took.{Took}
+use Rattle.chv_defs.specs.declared.request.Took.TheVariants as took
 use Rattle.chv_defs.specs.declared.machine.Machine.{Machine}
+use Rattle.chv_defs.specs.declared.scene.Asked.{Asked}
+use Rattle.chv_defs.specs.declared.scene.OnShelf.{OnShelf}
 use Rattle.chv_defs.specs.declared.control.ControlCall.{ControlCall}
 use Rattle.chv_defs.specs.declared.control.ControlCall.TheVariants as call
 use Rattle.chv_defs.specs.declared.control.ControlEntry.{ControlEntry}
-use Rattle.chv_defs.specs.declared.scene.Asked.{Asked}
-use Rattle.chv_defs.specs.declared.session.SessionLog.{SessionLog}
-use Rattle.chv_defs.specs.declared.session.SessionEnd.TheVariants as session
+use Rattle.chv_defs.specs.declared.session.SessionEnd.{SessionEnd}
+use Rattle.chv_defs.specs.declared.session.SessionEnd.TheVariants as end
 use Rattle.chv_defs.specs.declared.trace.Trace.{Trace}
+use Rattle.chv_defs.specs.declared.trace.SessionTrace.{SessionTrace}
 use Rattle.chv_defs.specs.Machine.{empty_machine}
 use Rattle.chv_defs.specs.ApiStep.{reply_to, after}
-use Rattle.chv_defs.specs.LegalControl.{IsLegal, calls_by}
-use Rattle.chv_defs.specs.ScenarioText.{IsPlayable}
+use Rattle.chv_defs.specs.ControlBook.{full_at}
 use Rattle.chv_defs.specs.SceneText.{request_bytes}
-use Rattle.chv_defs.specs.Routes.{call_of, reply_of}
+use Rattle.chv_defs.specs.SessionBytes.{asks_for, session_limit}
+use Rattle.chv_defs.specs.StreamCut.{cut}
+use Rattle.chv_defs.specs.Routes.{call_of_request, reply_to_call, refusal_bytes}
 
--- the entry of a call
-abbrev pub entry_of : Machine → ℕ → ControlCall → ControlEntry
-entry_of m caller c = record { caller = caller; call = c; reply = reply_to m c }
+-- ---- a session at its stream
 
--- the entries of a caller's calls, one after another, from a state on
-abbrev pub entries_of : Machine → ℕ → List ControlCall → List ControlEntry
-entries_of m caller [] = []
-entries_of m caller (c ∷ cs) = entry_of m caller c ∷ entries_of (after m caller c (reply_to m c)) caller cs
+-- Where a session stands at its stream: the bytes that it has not taken, how many it has taken, and those of them that are
+-- not answered.
+pub record Standing : Type 0 where
+  pub left : List ℕ
+  pub taken : ℕ
+  pub rest : List ℕ
 
--- the calls of a session's requests
-abbrev pub calls_of : List Asked → List ControlCall
-calls_of requests = filter_map call_of requests
+-- before it takes any
+abbrev pub at_start : List ℕ → Standing
+at_start stream = record { left = stream; taken = 0; rest = [] }
 
--- What the session has taken and put once it has ended: the bytes of its requests, and those of the replies to them.
-abbrev pub session_log : List Asked → SessionLog
-session_log requests = record {
-  asked = flat_map request_bytes requests;
-  replied = flat_map reply_of (entries_of empty_machine 1 (calls_of requests));
-  end = session.Ended;
+-- the next piece: as many bytes as it asks for, as far as bytes are left
+abbrev pub next_piece : Standing → List ℕ
+next_piece s = take (asks_for s.taken) s.left
+
+-- with the next piece taken
+abbrev pub with_piece : Standing → Standing
+with_piece s = record { left = drop (asks_for s.taken) s.left; taken = s.taken + length (next_piece s); rest = s.rest ++ next_piece s }
+
+-- whether bytes begin with neither a whole request nor a refusal
+abbrev pub is_not_yet : Took → Bool
+is_not_yet took.NotYet = true
+is_not_yet _ = false
+
+-- whether it takes a piece: neither a request nor a refusal is at hand, and there is something to take
+abbrev pub takes_more : Standing → Bool
+takes_more s = is_not_yet (cut s.rest).0 && nat_lt 0 (length (next_piece s))
+
+-- with all the pieces taken, of so many at most, that it takes before it answers; as many as bytes are left are enough
+abbrev pub filled : ℕ → Standing → Standing
+filled zero s = s
+filled (suc n) s = if takes_more s then filled n (with_piece s) else s
+
+-- ---- its turns
+
+-- What a session does in one turn: it answers a request, by the call that the request makes or by the rule that refuses it
+-- (and so it answers bytes that a rule refuses), telling whether the reply is its last one; or it leaves with its Bye.
+pub data Turn : Type 0 where
+  Answers : (does : Result ControlCall Rule) → (last : Bool) → Turn
+  Leaves : (how : SessionEnd) → Turn
+
+-- the turns of a session, and how many bytes of its stream it takes in all
+pub record Visit : Type 0 where
+  pub turns : List Turn
+  pub taken : ℕ
+
+-- how a session ends whose stream has ended: at a request's edge, or inside one
+abbrev pub end_behind : List ℕ → SessionEnd
+end_behind [] = end.Ended
+end_behind (b ∷ rest) = end.Cut
+
+-- how a session ends that has nothing to answer: at the limit, or where its stream ends
+abbrev pub end_at : Standing → SessionEnd
+end_at s = if nat_le session_limit s.taken then end.Limit else end_behind s.rest
+
+-- a last reply, and then the Bye
+abbrev pub last_turns : Result ControlCall Rule → SessionEnd → Standing → Visit
+last_turns does how s = record { turns = Answers does true ∷ Leaves how ∷ []; taken = s.taken }
+
+-- a turn before those of a visit
+abbrev pub with_turn : Turn → Visit → Visit
+with_turn turn visit = record visit { turns = turn ∷ visit.turns }
+
+-- What a session does that has taken what it takes, by what stands at the front of its bytes. `visit` is what it does from
+-- another standing on.
+abbrev pub visit_at : (Standing → Visit) → Standing → Took → List ℕ → Visit
+visit_at visit s took.NotYet rest = record { turns = Leaves (end_at s) ∷ []; taken = s.taken }
+visit_at visit s (took.Bad rule) rest = last_turns (Err rule) end.Bad s
+visit_at visit s (took.Request request) rest =
+    if request.last then last_turns (call_of_request request) end.Closed s
+    else with_turn (Answers (call_of_request request) false) (visit (record s { rest = rest }))
+
+-- What a session does from a standing on, with so many turns at most.
+abbrev pub visit_from : ℕ → Standing → Visit
+visit_from zero s = record { turns = []; taken = s.taken }
+visit_from (suc n) s = let t = filled (length s.left) s in visit_at (visit_from n) t (cut t.rest).0 (cut t.rest).1
+
+-- What a session does at a stream. A request has at least one byte, so that one turn more than the stream has bytes is enough.
+abbrev pub visit_of : List ℕ → Visit
+visit_of stream = visit_from (length stream + 1) (at_start stream)
+
+-- ---- rounds
+
+-- the visits of the sessions, each with its number, from 1 on
+abbrev pub numbered : {A : Type 0} → List A → List (ℕ × A)
+numbered items = enumerate_from 1 items
+
+-- a turn, with its session's number
+abbrev pub turn_of : ℕ → Option Turn → Option (ℕ × Turn)
+turn_of session None = None
+turn_of session (Some turn) = Some (session, turn)
+
+-- a session's turn of a round, where it has one; rounds count from 0
+abbrev pub turn_in : ℕ → ℕ × Visit → Option (ℕ × Turn)
+turn_in round visit = turn_of visit.0 (slice_get visit.1.turns round)
+
+-- a round: one turn of each session that has not ended, in the order of their numbers
+abbrev pub round_of : List (ℕ × Visit) → ℕ → List (ℕ × Turn)
+round_of visits round = filter_map (turn_in round) visits
+
+-- how many rounds there are: as many as the longest visit has turns
+abbrev pub rounds_of : List (ℕ × Visit) → ℕ
+rounds_of [] = 0
+rounds_of (visit ∷ visits) = max (length visit.1.turns) (rounds_of visits)
+
+-- all turns, round after round
+abbrev pub all_turns : List (ℕ × Visit) → List (ℕ × Turn)
+all_turns visits = flat_map (round_of visits) (range_with_len 0 (rounds_of visits))
+
+-- ---- what comes of the turns
+
+-- the control state, the history that led to it, and the replies so far, each with its session's number
+pub record Stage : Type 0 where
+  pub machine : Machine
+  pub history : List ControlEntry
+  pub replies : List (ℕ × List ℕ)
+
+-- before the first turn
+abbrev pub first_stage : Stage
+first_stage = record { machine = empty_machine; history = []; replies = [] }
+
+-- with a reply
+abbrev pub with_reply : ℕ → List ℕ → Stage → Stage
+with_reply session bytes s = record s { replies = s.replies ++ (session, bytes) ∷ [] }
+
+-- the entry of a call that a session makes now
+abbrev pub entry_of : List OnShelf → Stage → ℕ → ControlCall → ControlEntry
+entry_of shelf s session c = record { caller = session; call = c; reply = reply_to shelf s.machine c }
+
+-- with that entry
+abbrev pub with_entry : List OnShelf → ℕ → ControlCall → Stage → Stage
+with_entry shelf session c s = record s {
+  machine = after s.machine session c (reply_to shelf s.machine c);
+  history = s.history ++ entry_of shelf s session c ∷ [];
 }
 
--- The trace of a scenario with this one session: its calls and its Bye are the control history, and no bank has an entry.
-abbrev pub schedule : List Asked → Trace
-schedule requests = record {
+-- a refusal, or else a stage
+abbrev pub unless_full : Option Full → Stage → Result Stage Full
+unless_full None s = Ok s
+unless_full (Some full) s = Err full
+
+-- What comes of a turn: the entry of its call, where it makes one and the book is not full, and its reply.
+abbrev pub after_turn : List OnShelf → Stage → ℕ → Turn → Result Stage Full
+after_turn shelf s session (Answers (Err rule) last) = Ok (with_reply session (refusal_bytes rule last) s)
+after_turn shelf s session (Answers (Ok c) last) =
+    unless_full (full_at s.machine s.history (entry_of shelf s session c))
+    (with_reply session (reply_to_call c (reply_to shelf s.machine c) last) (with_entry shelf session c s))
+after_turn shelf s session (Leaves how) =
+    unless_full (full_at s.machine s.history (entry_of shelf s session call.Bye)) (with_entry shelf session call.Bye s)
+
+-- goes on from a stage, unless a book was full
+abbrev pub then_from : Result Stage Full → (Stage → Result Stage Full) → Result Stage Full
+then_from (Ok s) next = next s
+then_from (Err full) next = Err full
+
+-- what comes of turns, one after another
+abbrev pub after_turns : List OnShelf → Stage → List (ℕ × Turn) → Result Stage Full
+after_turns shelf s [] = Ok s
+after_turns shelf s (turn ∷ turns) = then_from (after_turn shelf s turn.0 turn.1) (λ next. after_turns shelf next turns)
+
+-- ---- the trace
+
+-- the replies to a session, one behind another
+abbrev pub replies_to : ℕ → List (ℕ × List ℕ) → List ℕ
+replies_to session replies = flat_map (λ reply. reply.1) (filter (λ (reply : ℕ × List ℕ). reply.0 == session) replies)
+
+-- how a visit ends
+abbrev pub end_of : List Turn → SessionEnd
+end_of [] = end.Stopped
+end_of (Answers does last ∷ turns) = end_of turns
+end_of (Leaves how ∷ turns) = how
+
+-- what a session asked, what it was replied, and how it ended
+abbrev pub log_of : Stage → ℕ × (List ℕ × Visit) → SessionTrace
+log_of s visit = record {
+  session = visit.0;
+  log = record {
+    asked = take visit.1.1.taken visit.1.0;
+    replied = replies_to visit.0 s.replies;
+    end = end_of visit.1.1.turns;
+  };
+}
+
+-- the trace of a run of sessions alone: no disk is made, no vCPU has a script, and no bank has an entry
+abbrev pub trace_at : List (List ℕ) → Stage → Trace
+trace_at streams s = record {
   disks = [];
   vcpus = [];
-  control = entries_of empty_machine 1 (calls_of requests ++ call.Bye ∷ []);
+  control = s.history;
   banks = [];
-  sessions = record { session = 1; log = session_log requests } ∷ [];
+  sessions = map (log_of s) (numbered (map (λ stream. (stream, visit_of stream)) streams));
 }
 
--- The law of the schedule: its control history is legal, and the session's calls are those of its requests in order, and
--- then one Bye.
-abbrev pub ScheduleIsLegal : Type 0
-ScheduleIsLegal = (requests : List Asked) → IsPlayable requests →
-    ((machine : Machine) × IsLegal (schedule requests).control machine)
-    × (calls_by 1 (schedule requests).control ≡ calls_of requests ++ call.Bye ∷ [])
+-- the trace at the last stage, unless a book was full
+abbrev pub trace_of : List (List ℕ) → Result Stage Full → Result Trace Full
+trace_of streams (Ok s) = Ok (trace_at streams s)
+trace_of streams (Err full) = Err full
+
+-- The trace of sessions at these streams, where these disks stand by; or the book that was full first.
+abbrev pub trace_of_streams : List OnShelf → List (List ℕ) → Result Trace Full
+trace_of_streams shelf streams = trace_of streams (after_turns shelf first_stage (all_turns (numbered (map visit_of streams))))
+
+-- the stream of a session: the bytes of its requests, one behind another
+abbrev pub stream_of : List Asked → List ℕ
+stream_of requests = flat_map request_bytes requests
+
+-- The trace of a scenario with these sessions, where these disks stand by; or the book that was full first.
+unfoldable pub schedule : List OnShelf → List (List Asked) → Result Trace Full
+schedule shelf sessions = trace_of_streams shelf (map stream_of sessions)

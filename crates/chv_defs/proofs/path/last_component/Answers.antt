@@ -1,6 +1,6 @@
 use Rattle.std.proofs.Common.{sym, ◌∙◌, ap, ◌≡◌, ◌-◌, ◌<◌, ◌≤◌, get_or, length, arith, lit<}
-use Rattle.chv_config.proofs.Components.{last_component-after, last_component-whole}
-use Rattle.chv_config.proofs.texts.last_component.Goals as goal
+use Rattle.chv_defs.proofs.Components.{last_component-after, last_component-whole}
+use Rattle.chv_defs.proofs.path.last_component.Goals as goal
 
 pub returns-in-Some : goal.returns-in-Some
 returns-in-Some c =
