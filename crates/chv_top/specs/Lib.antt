@@ -1,8 +1,5 @@
-pub mod Built
-pub mod Head
+pub mod Given
 pub mod Outcome
-pub mod Played
-pub mod Request
-pub mod Stop
+pub mod Says
 pub mod Taken
 pub mod Words

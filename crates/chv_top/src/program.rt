@@ -1,82 +1,67 @@
 // The program's calls.
-ghost use Rattle.std.specs.Prelude.{◌≡◌, ◌≤◌, IfOk, IfErr, map, string_bytes};
-ghost use Rattle.chv_defs.specs.declared.rule.Reason.TheVariants.{NotBuilt as not_built};
-ghost use Rattle.chv_defs.specs.ProgramText.{read_fault_line, scene_fault_line};
+ghost use Rattle.std.specs.Prelude.{◌≡◌, ◌≤◌, IfOk, IfErr, length};
 ghost use Rattle.chv_defs.specs.Schedule.{schedule};
-ghost use Rattle.chv_defs.specs.TraceText.{trace_text};
+ghost use Rattle.chv_control.specs.Shelf.{shelf_of};
 ghost use Rattle.chv_top.specs.Outcome.{TakesAtMost};
-ghost use Rattle.chv_top.specs.Request.{asked_of};
-ghost use Rattle.chv_top.specs.Stop.{IsScenarioOf, IsTraceOf, StopsBy, Writes, Says};
+ghost use Rattle.chv_top.specs.Says.{IsScene, Reports, Says, StopsBy};
 
+use crate::disks::{given, handed_back};
 use crate::input::{InputError, read_input};
-use crate::play::play;
-use crate::print::print;
-use crate::request::Request;
-use crate::scenario::read_scenario;
-use crate::status::Status;
-use chv_defs::Reason;
-use chv_io::{Sink, Source};
-use std::alloc::{AllocError, Global};
+use crate::lines::{full, read_fault, scene_fault, too_long, write};
+use crate::status::{Ended, Status};
+use chv_control::Start;
+use chv_defs::{Name, Row, Scene, StopCause, Trace};
+use chv_io::{Disk, Sink, Source};
+use chv_play::play;
+use chv_scene::SceneFault;
+use chv_trace::{PrintError, print};
+use std::alloc::Global;
 
-/// One byte more than the longest scenario that is read: `session`, 1,000 times `put vm.create {}`, and `end`.
-const INPUT_LIMIT: usize = 17_013;
+/// The most bytes that an input has.
+const MOST_INPUT: usize = 16_777_216;
+
+/// One byte more: it shows that an input is longer.
+const INPUT_LIMIT: usize = 16_777_217;
 
 /// Why nothing is played.
 #[derive(Clone, Copy, PartialEq, Eq, Debug)]
 pub enum Stop {
     Memory,
     ReadFault,
-    /// The input is no scenario that is read so far.
-    NotBuilt,
+    TooLong,
+    /// The input is no scenario.
+    Scene(SceneFault),
 }
 
-/// Plays the scenario that the input is, and writes its trace, or the line that says why it is not played.
-pub fn play_input<S: Source, K: Sink>(alloc: Global, input: &mut S, out: &mut K) -> Status
-    ensures says { Says (S.left input.old) (S.left input.new) (S.read_faults input.old) (S.read_faults input.new)
-        (K.written out.old) (K.written out.new) (K.write_faults out.old) (K.write_faults out.new) result }
-    ensures few { TakesAtMost (S.left input.old) (S.left input.new) 17013 }
+/// Plays the scenario that the input is, and writes its trace, or the line that says why there is none.
+pub fn play_input<S: Source, K: Sink, D: Disk>(
+    alloc: Global,
+    input: &mut S,
+    out: &mut K,
+    disks: Vec<(Name, D)>,
+) -> Ended<D>
+    ensures says { Says (shelf_of D.sector_count disks.items) (S.left input.old) (S.left input.new) (S.read_faults input.old)
+        (S.read_faults input.new) (K.written out.old) (K.written out.new) (K.write_faults out.old) (K.write_faults out.new)
+        result.status }
+    ensures disks { result.disks.items ≡ disks.items }
+    ensures few { TakesAtMost (S.left input.old) (S.left input.new) 16777217 }
     ensures reads { S.read_faults input.old ≤ S.read_faults input.new }
     ensures writes { K.write_faults out.old ≤ K.write_faults out.new }
 {
-    match printed_trace(alloc, input) {
-        Ok(text) => write(out, text.as_str(), Status::Done),
-        Err(Stop::Memory) => Status::Memory,
-        Err(Stop::ReadFault) => write(out, read_fault(), Status::ReadFault),
-        Err(Stop::NotBuilt) => write(out, first_line_not_built(), NOT_BUILT),
+    match scene_in(alloc, input) {
+        Ok(scene) => play_scene(alloc, out, disks, &scene),
+        Err(stop) => Ended {
+            status: say(alloc, out, stop),
+            disks,
+        },
     }
-}
-
-const NOT_BUILT: Status = Status::Scene {
-    line: 1,
-    reason: Reason::NotBuilt,
-};
-
-// The trace of the scenario that the input is, as text.
-fn printed_trace<S: Source>(alloc: Global, input: &mut S) -> Result<String, Stop>
-    ensures ok { IfOk result (λ text. IsTraceOf (S.left input.old) (S.left input.new) (string_bytes text)) }
-    ensures err { IfErr result (λ stop. StopsBy (S.left input.old) (S.read_faults input.old) (S.read_faults input.new) stop) }
-    ensures few { TakesAtMost (S.left input.old) (S.left input.new) 17013 }
-    ensures later { S.read_faults input.old ≤ S.read_faults input.new }
-{
-    let requests = scenario_in(alloc, input)?;
-    match print_played(alloc, requests.as_slice()) {
-        Ok(text) => Ok(text),
-        Err(_) => Err(Stop::Memory),
-    }
-}
-
-fn print_played(alloc: Global, requests: &[Request]) -> Result<String, AllocError>
-    ensures { IfOk result (λ text. string_bytes text ≡ trace_text (schedule (map asked_of requests.now))) }
-{
-    let trace = play(alloc, requests)?;
-    print(alloc, &trace)
 }
 
 // The scenario that the input is.
-fn scenario_in<S: Source>(alloc: Global, input: &mut S) -> Result<Vec<Request>, Stop>
-    ensures ok { IfOk result (λ requests. IsScenarioOf (S.left input.old) (S.left input.new) requests.items) }
-    ensures err { IfErr result (λ stop. StopsBy (S.left input.old) (S.read_faults input.old) (S.read_faults input.new) stop) }
-    ensures few { TakesAtMost (S.left input.old) (S.left input.new) 17013 }
+fn scene_in<S: Source>(alloc: Global, input: &mut S) -> Result<Scene, Stop>
+    ensures ok { IfOk result (λ scene. IsScene (S.left input.old) (S.left input.new) scene) }
+    ensures err { IfErr result (λ stop. StopsBy (S.left input.old) (S.left input.new) (S.read_faults input.old) (S.read_faults input.new) stop) }
+    ensures few { TakesAtMost (S.left input.old) (S.left input.new) 16777217 }
     ensures later { S.read_faults input.old ≤ S.read_faults input.new }
 {
     let text = match read_input(alloc, input, INPUT_LIMIT) {
@@ -84,34 +69,104 @@ fn scenario_in<S: Source>(alloc: Global, input: &mut S) -> Result<Vec<Request>, 
         Err(InputError::Memory) => return Err(Stop::Memory),
         Err(InputError::ReadFault) => return Err(Stop::ReadFault),
     };
-    match read_scenario(alloc, text.as_slice()) {
-        Ok(Some(requests)) => Ok(requests),
-        Ok(None) => Err(Stop::NotBuilt),
+    if text.len() > MOST_INPUT {
+        return Err(Stop::TooLong);
+    }
+    match chv_scene::read(alloc, text.as_slice()) {
+        Ok(Ok(scene)) => Ok(scene),
+        Ok(Err(fault)) => Err(Stop::Scene(fault)),
         Err(_) => Err(Stop::Memory),
     }
 }
 
-/// Writes a text, and says how that went: the status that is wanted, or a write fault.
-pub fn write<K: Sink>(out: &mut K, text: &str, wanted: Status) -> Status
-    ensures wrote { Writes (K.written out.old) (K.written out.new) (K.write_faults out.old) (K.write_faults out.new)
-        text.now wanted result }
+// Writes the line that says why nothing is played.
+fn say<K: Sink>(alloc: Global, out: &mut K, stop: Stop) -> Status
+    ensures said { Tells (K.written out.old) (K.written out.new) (K.write_faults out.old) (K.write_faults out.new) stop result }
     ensures later { K.write_faults out.old ≤ K.write_faults out.new }
 {
-    match out.put(text.as_bytes()) {
-        Ok(()) => wanted,
-        Err(_) => Status::WriteFault,
+    match stop {
+        Stop::Memory => Status::Memory,
+        Stop::ReadFault => write(out, read_fault(), Status::ReadFault),
+        Stop::TooLong => write(out, too_long(), TOO_LONG),
+        Stop::Scene(fault) => say_fault(alloc, out, fault),
     }
 }
 
-#[tactic(auto, unfolding(chv_defs::specs::ProgramText::read_fault_line))]
-fn read_fault() -> &'static str
-    ensures { result.now ≡ read_fault_line }
+const TOO_LONG: Status = Status::TooLong { bytes: 16_777_217 };
+
+fn say_fault<K: Sink>(alloc: Global, out: &mut K, fault: SceneFault) -> Status
+    ensures said { Tells (K.written out.old) (K.written out.new) (K.write_faults out.old) (K.write_faults out.new)
+        (stop.Scene fault) result }
+    ensures later { K.write_faults out.old ≤ K.write_faults out.new }
 {
-    "chv: read fault\n"
+    match scene_fault(alloc, fault) {
+        Ok(line) => write(
+            out,
+            line.as_str(),
+            Status::Scene {
+                line: fault.line,
+                reason: fault.reason,
+            },
+        ),
+        Err(_) => Status::Memory,
+    }
 }
 
-fn first_line_not_built() -> &'static str
-    ensures { result.now ≡ scene_fault_line 1 not_built }
+// Plays a scenario, and writes its trace, or the line of the book that is full.
+fn play_scene<K: Sink, D: Disk>(
+    alloc: Global,
+    out: &mut K,
+    disks: Vec<(Name, D)>,
+    scene: &Scene,
+) -> Ended<D>
+    requires few { length scene.now.sessions ≤ 16 }
+    ensures reports { Reports (shelf_of D.sector_count disks.items) (schedule (shelf_of D.sector_count disks.items) scene.now.sessions)
+        (K.written out.old) (K.written out.new) (K.write_faults out.old) (K.write_faults out.new) result.status }
+    ensures disks { result.disks.items ≡ disks.items }
+    ensures later { K.write_faults out.old ≤ K.write_faults out.new }
 {
-    "chv: line 1: NotBuilt\n"
+    let sessions = scene.sessions.as_slice();
+    let (disks, back) = match given(alloc, disks) {
+        Ok(both) => both,
+        Err(disks) => {
+            return Ended {
+                status: Status::Memory,
+                disks,
+            };
+        }
+    };
+    let played = play(
+        alloc,
+        Start {
+            disks,
+            sessions: sessions.len() as u32,
+        },
+        sessions,
+    );
+    Ended {
+        status: report(alloc, out, played.trace, played.cause),
+        disks: handed_back(played.start.disks, back),
+    }
+}
+
+// Writes a trace, or the line of the book that is full.
+fn report<K: Sink>(
+    alloc: Global,
+    out: &mut K,
+    trace: Option<Trace>,
+    cause: Option<StopCause>,
+) -> Status
+    ensures reports { (shelf : List OnShelf) (sessions : Sessions) → Comes shelf (schedule shelf sessions) trace cause
+        → Reports shelf (schedule shelf sessions) (K.written out.old) (K.written out.new) (K.write_faults out.old) (K.write_faults out.new) result }
+    ensures later { K.write_faults out.old ≤ K.write_faults out.new }
+{
+    match (trace, cause) {
+        (Some(trace), _) => match print(alloc, &trace, out) {
+            Ok(()) => Status::Done,
+            Err(PrintError::Memory) => Status::Memory,
+            Err(PrintError::Failed) => Status::WriteFault,
+        },
+        (None, Some(StopCause::Full(book))) => report_full(alloc, out, book),
+        _ => Status::Memory,
+    }
 }

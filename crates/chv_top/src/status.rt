@@ -1,5 +1,5 @@
 // How a run of the program ends.
-use chv_defs::Reason;
+use chv_defs::{BookId, Name, Reason};
 
 /// How a run of the program ends.
 #[derive(Clone, Copy, PartialEq, Eq, Debug)]
@@ -8,7 +8,7 @@ pub enum Status {
     Done,
     /// The words are none of the program's.
     Usage,
-    /// The scenario is refused: a line, counted from 1, and why. So far always line 1 and NotBuilt.
+    /// The scenario is refused: its first line that fails, counted from 1, and why.
     Scene { line: u32, reason: Reason },
     /// The input could not be read.
     ReadFault,
@@ -16,6 +16,14 @@ pub enum Status {
     WriteFault,
     /// There was no memory.
     Memory,
+    /// A book has no room for the next entry. It holds so many entries, reserved ones counted, and so many bytes of payload.
+    Full {
+        book: BookId,
+        entries: u64,
+        bytes: u64,
+    },
+    /// The input is longer than 16,777,216 bytes; it has at least so many.
+    TooLong { bytes: u64 },
 }
 
 impl Status {
@@ -33,12 +41,15 @@ impl Status {
             Status::ReadFault => 3,
             Status::WriteFault => 4,
             Status::Memory => 6,
+            Status::Full { .. } => 7,
+            Status::TooLong { .. } => 9,
         }
     }
 }
 
-/// What a run hands back.
-#[derive(Clone, Copy, PartialEq, Eq, Debug)]
-pub struct Ended {
+/// What a run hands back: how it ended, and the disks that were handed in.
+#[derive(Drop)]
+pub struct Ended<D> {
     pub status: Status,
+    pub disks: Vec<(Name, D)>,
 }

@@ -1,0 +1,6 @@
+//! Stub.
+#![tactic(auto)]
+
+mod player;
+
+pub use player::{Played, play};

@@ -1,0 +1,69 @@
+-- Why nothing was played, and what a status says of a run that plays, by cases.
+use Rattle.std.specs.Prelude.{◌≡◌, ◌⊎◌, ◌<◌, ℕ, List, [], Option, IfSome, Result, Ok, Err, length}
+use Rattle.chv_defs.specs.declared.scene.OnShelf.{OnShelf}
+use Rattle.chv_defs.specs.declared.scene.Scene.{Scene}
+use Rattle.chv_defs.specs.declared.bank.Full.{Full}
+use Rattle.chv_defs.specs.declared.trace.Trace.{Trace}
+use Rattle.chv_defs.specs.Outside.{Rose, Gains, GainsPart}
+use Rattle.chv_defs.specs.ProgramText.{full_line, read_fault_line}
+use Rattle.chv_defs.specs.ScenarioText.{read_scenario}
+use Rattle.chv_defs.specs.TraceText.{trace_text}
+use Rattle.chv_play.specs.Played.{IsLegalRun}
+use Rattle.chv_scene.specs.Answer.{scene_of}
+use Rattle.chv_top.specs.Outcome.{IsFull, IsInput, IsPartOfOwed, IsPlayed, IsRead, IsRefused, IsTooLong, most_input, of_schedule, text_of}
+use Rattle.chv_top.specs.declared.status.Status.{Status}
+use Rattle.chv_top.specs.declared.status.Status.TheVariants as status
+use Rattle.chv_top.specs.declared.program.Stop.{Stop}
+use Rattle.chv_top.specs.declared.program.Stop.TheVariants as stop
+
+-- The input, read to its end, is this scenario.
+pub record IsScene (left left_after : Option (List ℕ)) (scene : Scene) : Type 0 where
+  pub text : List ℕ
+  pub read : IsRead left left_after text
+  pub scenario : read_scenario text ≡ Ok scene.sessions
+  pub few : length scene.sessions ≤ 16
+
+-- why there is none
+abbrev pub StopsBy : Option (List ℕ) → Option (List ℕ) → ℕ → ℕ → Stop → Type 0
+StopsBy left left_after reads reads_after stop.Memory = Unit {0}
+StopsBy left left_after reads reads_after stop.ReadFault = Rose reads reads_after
+StopsBy left left_after reads reads_after stop.TooLong = (text : List ℕ) × IsInput left text × (most_input < length text)
+StopsBy left left_after reads reads_after (stop.Scene fault) =
+    (text : List ℕ) × IsRead left left_after text × (read_scenario text ≡ Err (record { line = fault.line; reason = fault.reason }))
+
+-- The text was written and the status is this one; or a first part of it was, and the output had a fault.
+abbrev pub Writes : Option (List ℕ) → Option (List ℕ) → ℕ → ℕ → List ℕ → Status → Status → Type 0
+Writes written written_after writes writes_after text wanted result =
+    ((result ≡ wanted) × Gains written written_after text)
+    ⊎ ((result ≡ status.WriteFault) × Rose writes writes_after × GainsPart written written_after text)
+
+-- What a status says of a run that writes what the schedule of its scenario comes to.
+abbrev pub Reports : List OnShelf → Result Trace Full → Option (List ℕ) → Option (List ℕ) → ℕ → ℕ → Status → Type 0
+Reports shelf given written written_after writes writes_after status.Done =
+    (trace : Trace) × (given ≡ Ok trace) × IsLegalRun shelf trace × Gains written written_after (trace_text trace)
+Reports shelf given written written_after writes writes_after (status.Full book entries bytes) =
+    (given ≡ Err (record { book = book; entries = entries; bytes = bytes }))
+    × Gains written written_after (full_line (record { book = book; entries = entries; bytes = bytes }))
+Reports shelf given written written_after writes writes_after status.WriteFault =
+    Rose writes writes_after × GainsPart written written_after (text_of (of_schedule given))
+Reports shelf given written written_after writes writes_after status.Memory =
+    GainsPart written written_after (text_of (of_schedule given))
+Reports shelf given written written_after writes writes_after _ = ⊥
+
+-- What a status says of a run that plays its input, where these disks stand by.
+abbrev pub Says : List OnShelf → Option (List ℕ) → Option (List ℕ) → ℕ → ℕ → Option (List ℕ) → Option (List ℕ) → ℕ → ℕ → Status → Type 0
+Says shelf left left_after reads reads_after written written_after writes writes_after status.Done =
+    IsPlayed shelf left left_after written written_after
+Says shelf left left_after reads reads_after written written_after writes writes_after status.Usage = ⊥
+Says shelf left left_after reads reads_after written written_after writes writes_after (status.Scene line reason) =
+    IsRefused left left_after written written_after line reason
+Says shelf left left_after reads reads_after written written_after writes writes_after status.ReadFault =
+    Rose reads reads_after × Gains written written_after read_fault_line
+Says shelf left left_after reads reads_after written written_after writes writes_after status.WriteFault =
+    Rose writes writes_after × IsPartOfOwed shelf left reads reads_after written written_after
+Says shelf left left_after reads reads_after written written_after writes writes_after status.Memory =
+    (written_after ≡ written) ⊎ IsPartOfOwed shelf left reads reads_after written written_after
+Says shelf left left_after reads reads_after written written_after writes writes_after (status.Full book entries bytes) =
+    IsFull shelf left left_after written written_after (record { book = book; entries = entries; bytes = bytes })
+Says shelf left left_after reads reads_after written written_after writes writes_after (status.TooLong bytes) =
+    (bytes ≡ 16777217) × IsTooLong left written written_after

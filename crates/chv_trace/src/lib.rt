@@ -1,0 +1,6 @@
+//! Stub.
+#![tactic(auto)]
+
+mod printer;
+
+pub use printer::{PrintError, print};
