@@ -1,13 +1,11 @@
 -- The last component of a path.
-use Rattle.std.proofs.Common.{◌≡◌, ◌≢◌, ℕ, ◌+◌, ◌-◌, ◌<◌, ◌≤◌, Bool, true, false, List, [], ◌∷◌, ◌++◌, refl, sym, ◌∙◌, ap, arith, length, drop, get_or}
-use Rattle.std.specs.Prelude.{◌==◌, not, Some, None}
+use Rattle.std.proofs.Common.{◌≡◌, ◌≢◌, ℕ, ◌+◌, ◌-◌, ◌<◌, ◌≤◌, true, false, List, refl, ◌∙◌, ap, arith, length, drop, get_or}
+use Rattle.std.specs.Prelude.{◌==◌, not}
 use Rattle.std.specs.List.{suffix_len}
 use Rattle.std.specs.Str.{NoCharPasses}
-use Rattle.std.specs.Str.Pattern.{RFindsChar}
 use Rattle.std.proofs.lemmas.List.{get_or-drop, length-drop}
 use Rattle.std.proofs.lemmas.List.Sums.{suffix_len_is}
 use Rattle.std.proofs.lemmas.Str.Pattern.{NoCharPasses-char}
-use Rattle.std.proofs.lemmas.Bool.{false_from_ne_true}
 use Rattle.chv_defs.specs.ConfigRules.{last_component}
 
 no_slash : (b : ℕ) → b ≢ 47 → not (b == 47) ≡ true

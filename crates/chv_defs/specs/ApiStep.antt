@@ -35,17 +35,17 @@ abbrev pub is_on_hold : Life → Bool
 is_on_hold (life.Hold holder goal) = true
 is_on_hold _ = false
 
--- the machine was created or shut down, and is not booted
-abbrev pub is_unbooted : Life → Bool
-is_unbooted life.Created = true
-is_unbooted life.Shutdown = true
-is_unbooted _ = false
+-- the machine was created or shut down: it is there, and not booted
+abbrev pub is_created_or_shut_down : Life → Bool
+is_created_or_shut_down life.Created = true
+is_created_or_shut_down life.Shutdown = true
+is_created_or_shut_down _ = false
 
 -- the machine runs, or is paused
-abbrev pub is_booted : Life → Bool
-is_booted life.Running = true
-is_booted life.Paused = true
-is_booted _ = false
+abbrev pub is_running_or_paused : Life → Bool
+is_running_or_paused life.Running = true
+is_running_or_paused life.Paused = true
+is_running_or_paused _ = false
 
 -- the machine runs
 abbrev pub is_running : Life → Bool
@@ -78,7 +78,7 @@ rules_of shelf m call.Info =
     ∷ []
 rules_of shelf m call.Counters =
     (is_uncreated m, NotCreated)
-    ∷ (is_unbooted m.life, NotBooted)
+    ∷ (is_created_or_shut_down m.life, NotBooted)
     ∷ []
 rules_of shelf m (call.Create config) =
     (is_some m.config, AlreadyCreated)
@@ -86,7 +86,7 @@ rules_of shelf m (call.Create config) =
 rules_of shelf m call.Boot =
     (is_uncreated m, NotCreated)
     ∷ (is_on_hold m.life, Held)
-    ∷ (is_booted m.life, AlreadyBooted)
+    ∷ (is_running_or_paused m.life, AlreadyBooted)
     ∷ (true, NotBuilt)
     ∷ []
 rules_of shelf m (call.Begin Pause) =
@@ -97,7 +97,7 @@ rules_of shelf m (call.Begin Pause) =
 rules_of shelf m (call.Begin Shutdown) =
     (is_uncreated m, NotCreated)
     ∷ (is_on_hold m.life, Held)
-    ∷ (is_unbooted m.life, NotBooted)
+    ∷ (is_created_or_shut_down m.life, NotBooted)
     ∷ []
 rules_of shelf m (call.Begin Delete) =
     (is_uncreated m, NotCreated)
@@ -108,26 +108,27 @@ rules_of shelf m call.Resume =
     ∷ (is_on_hold m.life, Held)
     ∷ (not (is_paused m.life), NotPaused)
     ∷ []
--- (what else refuses a resize is asked of a booted machine)
+-- (what else refuses a resize is asked of a machine that is booted)
 rules_of shelf m (call.Resize vcpus ram) =
     (is_uncreated m, NotCreated)
-    ∷ (is_unbooted m.life, NotBooted)
+    ∷ (is_created_or_shut_down m.life, NotBooted)
     ∷ []
 rules_of shelf m (call.ResizeZone zone ram) =
     (is_uncreated m, NotCreated)
-    ∷ (is_unbooted m.life, NotBooted)
+    ∷ (is_created_or_shut_down m.life, NotBooted)
     ∷ []
 rules_of shelf m (call.AddDisk disk) =
     (is_uncreated m, NotCreated)
     ∷ (further_disk_rules (names_of shelf) (now_of m) disk
     ++ (has_full_slots (now_of m), SlotsFull)
     ∷ [])
+-- (whether its removal was asked already is asked of a machine that is booted)
 rules_of shelf m (call.Remove id) =
     (is_uncreated m, NotCreated)
     ∷ (not (has_text (device_ids (now_of m)) id), DeviceUnknown)
     ∷ (has_text (memory_device_ids (now_of m).zones) id, DeviceFixed)
     ∷ []
--- (the vault is asked where the machine is paused)
+-- (the vault is asked where a machine is paused)
 rules_of shelf m (call.Snapshot name) =
     (is_uncreated m, NotCreated)
     ∷ (is_on_hold m.life, Held)
@@ -137,6 +138,7 @@ rules_of shelf m (call.Restore name) =
     (is_some m.config, AlreadyCreated)
     ∷ (true, NotBuilt)
     ∷ []
+-- (Ping, Bye and Stop are never refused; no other call is made of a machine that is not booted)
 rules_of shelf m _ = []
 
 -- the rule by which a call is refused: the first whose condition holds

@@ -48,7 +48,7 @@ passes_limit m history entry =
     nat_lt most_entries (places m history + 1) || nat_lt most_payload (payload history + entry_payload entry)
 
 -- The refusal of a further entry behind a history with this last state, where one is due: the book is full where the entry
--- passes a limit. Its numbers are those before the entry. A Stop is never refused.
+-- passes a limit. Its numbers are those before the entry, the place that is kept counted. A Stop is never refused.
 abbrev pub full_at : Machine → List ControlEntry → ControlEntry → Option Full
 full_at m history entry =
     if is_stop entry.call then None

@@ -32,7 +32,8 @@ HasSmallZones None = Unit {0}
 HasSmallZones (Some checked) = sum_by (λ (zone : ZoneConfig). zone.size) checked.zones < 2 ^ 64
 
 -- A control state is well formed where it has a configuration exactly where there is a machine, the machine is not
--- booted, the sizes of its zones fit their sum, and the ended ones are sessions, ascending.
+-- booted, the sizes of its zones sum below 2^64 (as the number that `vm.info` shows has to), and the ended ones are
+-- sessions, ascending.
 pub record IsWellFormed (m : Machine) : Type 0 where
   pub life_and_config : (m.life ≡ life.None) ↔ (m.config ≡ None)
   pub unbooted : IsUnbooted m.life

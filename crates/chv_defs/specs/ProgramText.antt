@@ -24,7 +24,8 @@ read_fault_line = codes "chv: read fault\n"
 unfoldable pub too_long_line : List ℕ
 too_long_line = codes "chv: too long\n"
 
--- the line for a book that is full: which one, and how many entries and bytes of payload it holds
+-- the line for a book that is full: which one, how many places of it are taken, kept ones counted, and how many bytes of
+-- payload it holds
 abbrev pub full_line : Full → List ℕ
 full_line full = codes "chv: full" ++ field (book_text full.book) ++ field (dec_text full.entries) ++ field (dec_text full.bytes) ++ codes "\n"
 

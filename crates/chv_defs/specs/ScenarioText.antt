@@ -1,7 +1,7 @@
 -- How a scenario is read, in a format of this project's own: what its lines mean, or the first line that fails and why.
 -- Built so far are sections of sessions. The words `disk`, `vcpu` and `order` are not built: where the format takes one, its
 -- line is refused as NotBuilt.
-use Rattle.std.specs.Prelude.{ℕ, ◌+◌, ◌==◌, ◌&&◌, ◌||◌, not, nat_le, nat_lt, Bool, true, false, if◌then◌else◌, List, [], ◌∷◌, length, codes, Option, None, Some, Result, Ok, Err}
+use Rattle.std.specs.Prelude.{◌≡◌, ◌≤◌, ℕ, ◌+◌, ◌==◌, ◌&&◌, ◌||◌, not, nat_le, nat_lt, Bool, true, false, if◌then◌else◌, List, [], ◌∷◌, length, flat_map, codes, Option, None, Some, Result, Ok, Err}
 use Rattle.std.specs.List.{list_all, list_any}
 use Rattle.std.specs.Str.{bytes_eq}
 use Rattle.chv_defs.specs.declared.scene.Asked.{Asked}
@@ -10,6 +10,7 @@ use Rattle.chv_defs.specs.declared.rule.Reason.{Reason}
 use Rattle.chv_defs.specs.declared.rule.Reason.TheVariants.{UnknownWord, FieldCount, BadNumber, BadHex, BadName, Unended, OutOfOrder, TooMany, Unclosed, NotBuilt}
 use Rattle.chv_defs.specs.Name.{is_name}
 use Rattle.chv_defs.specs.Numbers.{dec, bytes_of}
+use Rattle.chv_defs.specs.SceneText.{session_section}
 
 -- ---- lines and fields
 
@@ -136,7 +137,7 @@ abbrev pub late : (List ℕ → Option (List ℕ) → Reason) → Option (List �
 late reason None = FieldCount
 late reason (Some fields) = reason (at_space fields).0 (at_space fields).1
 
--- a word that is not built, where the format takes it, and else out of order
+-- why the line of a word fails that is not built: NotBuilt where the format takes it, and else what is wrong with the line
 abbrev pub early_word : (List ℕ → Option (List ℕ) → Reason) → ℕ → Option (List ℕ) → Option Reason
 early_word reason sessions fields = if sessions == 0 then Some NotBuilt else Some (late reason fields)
 
@@ -190,9 +191,9 @@ abbrev pub top_part : ℕ → Option Reason → Result Sessions Fault → Result
 top_part n (Some reason) inside = Err (record { line = n; reason = reason })
 top_part n None inside = inside
 
--- The sessions that the lines spell, the first of which has this number: where `is_inside`, the first session is the one
--- whose section is open. So many sessions stand before. Or the first line that fails: the line behind the last one where a
--- section has no end.
+-- The sessions that lines spell, or the first line that fails: the line behind the last one where a section has no end. Told
+-- are whether a section is open, of which the first of the sessions is then the rest; how many sections were opened so far,
+-- the open one counted; and the number of the first of the lines.
 abbrev pub read_lines : Bool → ℕ → ℕ → List Line → Result Sessions Fault
 read_lines true sessions n [] = Err (record { line = n; reason = Unclosed })
 read_lines false sessions n [] = Ok []
@@ -204,3 +205,25 @@ read_lines false sessions n (line ∷ lines) =
 -- The sessions of the scenario that a text is, or its first line that fails, and why.
 abbrev pub read_scenario : List ℕ → Result Sessions Fault
 read_scenario text = read_lines false 0 1 (lines_of text)
+
+-- ---- the grammar
+
+-- whether a request can stand in a scenario
+abbrev pub is_request : Asked → Bool
+is_request (asked.Get name) = is_route_name name
+is_request (asked.Put name None) = is_route_name name
+is_request (asked.Put name (Some body)) = is_route_name name && nat_lt 0 (length body) && list_all (λ b. not (b == 10)) body
+is_request (asked.Raw bytes) = nat_lt 0 (length bytes) && list_all (λ b. nat_lt b 256) bytes
+
+-- A text is a scenario with these sessions: their sections, one behind another; at most 16, and each of their requests one
+-- that can stand there.
+pub record IsScenario (text : List ℕ) (sessions : Sessions) : Type 0 where
+  pub spelled : text ≡ flat_map session_section sessions
+  pub few : length sessions ≤ 16
+  pub requests : list_all (λ (requests : List Asked). list_all is_request requests) sessions ≡ true
+
+-- The law of the reader: it reads exactly the scenarios, each as the sessions that it spells.
+abbrev pub ReadsScenarios : Type 0
+ReadsScenarios =
+    ((text : List ℕ) (sessions : Sessions) → read_scenario text ≡ Ok sessions → IsScenario text sessions)
+    × ((text : List ℕ) (sessions : Sessions) → IsScenario text sessions → read_scenario text ≡ Ok sessions)

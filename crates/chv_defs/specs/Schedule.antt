@@ -26,8 +26,8 @@ use Rattle.chv_defs.specs.Routes.{call_of_request, reply_to_call, refusal_bytes}
 
 -- ---- a session at its stream
 
--- Where a session stands at its stream: the bytes that it has not taken, how many it has taken, and those of them that are
--- not answered.
+-- Where a session stands at its stream: the bytes of the stream that are left to take, how many it has taken, and those of
+-- them that it has not answered.
 pub record Standing : Type 0 where
   pub left : List ℕ
   pub taken : ℕ
@@ -54,7 +54,8 @@ is_not_yet _ = false
 abbrev pub takes_more : Standing → Bool
 takes_more s = is_not_yet (cut s.rest).0 && nat_lt 0 (length (next_piece s))
 
--- with all the pieces taken, of so many at most, that it takes before it answers; as many as bytes are left are enough
+-- With every piece taken that it takes before it answers. It takes at most so many; each has at least one byte, so that as
+-- many as bytes are left are enough.
 abbrev pub filled : ℕ → Standing → Standing
 filled zero s = s
 filled (suc n) s = if takes_more s then filled n (with_piece s) else s
@@ -64,7 +65,7 @@ filled (suc n) s = if takes_more s then filled n (with_piece s) else s
 -- What a session does in one turn: it answers a request, by the call that the request makes or by the rule that refuses it
 -- (and so it answers bytes that a rule refuses), telling whether the reply is its last one; or it leaves with its Bye.
 pub data Turn : Type 0 where
-  Answers : (does : Result ControlCall Rule) → (last : Bool) → Turn
+  Answers : (by : Result ControlCall Rule) → (last : Bool) → Turn
   Leaves : (how : SessionEnd) → Turn
 
 -- the turns of a session, and how many bytes of its stream it takes in all
@@ -83,7 +84,7 @@ end_at s = if nat_le session_limit s.taken then end.Limit else end_behind s.rest
 
 -- a last reply, and then the Bye
 abbrev pub last_turns : Result ControlCall Rule → SessionEnd → Standing → Visit
-last_turns does how s = record { turns = Answers does true ∷ Leaves how ∷ []; taken = s.taken }
+last_turns by how s = record { turns = Answers by true ∷ Leaves how ∷ []; taken = s.taken }
 
 -- a turn before those of a visit
 abbrev pub with_turn : Turn → Visit → Visit
@@ -98,18 +99,19 @@ visit_at visit s (took.Request request) rest =
     if request.last then last_turns (call_of_request request) end.Closed s
     else with_turn (Answers (call_of_request request) false) (visit (record s { rest = rest }))
 
--- What a session does from a standing on, with so many turns at most.
+-- What a session does from a standing on, looking at most so many times at what stands at the front of its bytes.
 abbrev pub visit_from : ℕ → Standing → Visit
 visit_from zero s = record { turns = []; taken = s.taken }
 visit_from (suc n) s = let t = filled (length s.left) s in visit_at (visit_from n) t (cut t.rest).0 (cut t.rest).1
 
--- What a session does at a stream. A request has at least one byte, so that one turn more than the stream has bytes is enough.
+-- What a session does at a stream. Each look but the last finds a request, of at least one byte, so that one look more than
+-- the stream has bytes is enough.
 abbrev pub visit_of : List ℕ → Visit
 visit_of stream = visit_from (length stream + 1) (at_start stream)
 
 -- ---- rounds
 
--- the visits of the sessions, each with its number, from 1 on
+-- things of the sessions, each with its session's number, from 1 on
 abbrev pub numbered : {A : Type 0} → List A → List (ℕ × A)
 numbered items = enumerate_from 1 items
 
@@ -167,7 +169,8 @@ abbrev pub unless_full : Option Full → Stage → Result Stage Full
 unless_full None s = Ok s
 unless_full (Some full) s = Err full
 
--- What comes of a turn: the entry of its call, where it makes one and the book is not full, and its reply.
+-- What comes of a turn: the entry of its call, where it makes one and the book is not full, and its reply. (No call on a
+-- machine that is not booted is answered Holding, so that none is settled.)
 abbrev pub after_turn : List OnShelf → Stage → ℕ → Turn → Result Stage Full
 after_turn shelf s session (Answers (Err rule) last) = Ok (with_reply session (refusal_bytes rule last) s)
 after_turn shelf s session (Answers (Ok c) last) =
@@ -195,7 +198,7 @@ replies_to session replies = flat_map (λ reply. reply.1) (filter (λ (reply : �
 -- how a visit ends
 abbrev pub end_of : List Turn → SessionEnd
 end_of [] = end.Stopped
-end_of (Answers does last ∷ turns) = end_of turns
+end_of (Answers by last ∷ turns) = end_of turns
 end_of (Leaves how ∷ turns) = how
 
 -- what a session asked, what it was replied, and how it ended
