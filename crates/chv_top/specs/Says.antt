@@ -1,11 +1,11 @@
 -- Why nothing was played, and what a status says of a run that plays, by cases.
-use Rattle.std.specs.Prelude.{◌≡◌, ◌⊎◌, ◌<◌, ℕ, List, [], Option, IfSome, Result, Ok, Err, length}
+use Rattle.std.specs.Prelude.{◌≡◌, ◌⊎◌, ◌≤◌, ◌<◌, ℕ, List, [], Option, IfSome, Result, Ok, Err, length}
 use Rattle.chv_defs.specs.declared.scene.OnShelf.{OnShelf}
 use Rattle.chv_defs.specs.declared.scene.Scene.{Scene}
 use Rattle.chv_defs.specs.declared.bank.Full.{Full}
 use Rattle.chv_defs.specs.declared.trace.Trace.{Trace}
 use Rattle.chv_defs.specs.Outside.{Rose, Gains, GainsPart}
-use Rattle.chv_defs.specs.ProgramText.{full_line, read_fault_line}
+use Rattle.chv_defs.specs.ProgramText.{full_line, read_fault_line, scene_fault_line, too_long_line}
 use Rattle.chv_defs.specs.ScenarioText.{read_scenario}
 use Rattle.chv_defs.specs.TraceText.{trace_text}
 use Rattle.chv_play.specs.Played.{IsLegalRun}
@@ -36,6 +36,35 @@ abbrev pub Writes : Option (List ℕ) → Option (List ℕ) → ℕ → ℕ → 
 Writes written written_after writes writes_after text wanted result =
     ((result ≡ wanted) × Gains written written_after text)
     ⊎ ((result ≡ status.WriteFault) × Rose writes writes_after × GainsPart written written_after text)
+
+-- What a status says of a run that writes the line of why there is no scenario.
+abbrev pub Tells : Option (List ℕ) → Option (List ℕ) → ℕ → ℕ → Stop → Status → Type 0
+Tells written written_after writes writes_after stop.Memory result = (result ≡ status.Memory) × (written_after ≡ written)
+Tells written written_after writes writes_after stop.ReadFault result =
+    Writes written written_after writes writes_after read_fault_line status.ReadFault result
+Tells written written_after writes writes_after stop.TooLong result =
+    Writes written written_after writes writes_after too_long_line (status.TooLong 16777217) result
+Tells written written_after writes writes_after (stop.Scene fault) result =
+    Writes written written_after writes writes_after (scene_fault_line fault.line fault.reason) (status.Scene fault.line fault.reason) result
+    ⊎ ((result ≡ status.Memory) × (written_after ≡ written))
+
+-- a trace of sessions alone
+pub record IsPlain (trace : Trace) : Type 0 where
+  pub disks : trace.disks ≡ []
+  pub vcpus : trace.vcpus ≡ []
+  pub banks : trace.banks ≡ []
+
+-- What a status says of a run that writes a trace.
+abbrev pub ReportsTrace : Trace → Option (List ℕ) → Option (List ℕ) → ℕ → ℕ → Status → Type 0
+ReportsTrace trace written written_after writes writes_after result =
+    Writes written written_after writes writes_after (trace_text trace) status.Done result
+    ⊎ ((result ≡ status.Memory) × GainsPart written written_after (trace_text trace))
+
+-- What a status says of a run that writes the line of a book that is full.
+abbrev pub ReportsFull : Full → Option (List ℕ) → Option (List ℕ) → ℕ → ℕ → Status → Type 0
+ReportsFull full written written_after writes writes_after result =
+    Writes written written_after writes writes_after (full_line full) (status.Full full.book full.entries full.bytes) result
+    ⊎ ((result ≡ status.Memory) × (written_after ≡ written))
 
 -- What a status says of a run that writes what the schedule of its scenario comes to.
 abbrev pub Reports : List OnShelf → Result Trace Full → Option (List ℕ) → Option (List ℕ) → ℕ → ℕ → Status → Type 0

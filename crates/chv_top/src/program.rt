@@ -1,16 +1,20 @@
 // The program's calls.
-ghost use Rattle.std.specs.Prelude.{◌≡◌, ◌≤◌, IfOk, IfErr, length};
+ghost use Rattle.std.specs.Prelude.{◌≡◌, ◌≤◌, List, Result, IfOk, IfErr, IfSome, length};
+ghost use Rattle.chv_defs.specs.declared.scene.OnShelf.{OnShelf};
+ghost use Rattle.chv_defs.specs.declared.bank.Full as defs_full;
+ghost use Rattle.chv_defs.specs.declared.trace.Trace as defs_trace;
 ghost use Rattle.chv_defs.specs.Schedule.{schedule};
 ghost use Rattle.chv_control.specs.Shelf.{shelf_of};
+ghost use Rattle.chv_play.specs.Played.{Comes};
 ghost use Rattle.chv_top.specs.Outcome.{TakesAtMost};
-ghost use Rattle.chv_top.specs.Says.{IsScene, Reports, Says, StopsBy};
+ghost use Rattle.chv_top.specs.Says.{IsPlain, IsScene, Reports, ReportsFull, ReportsTrace, Says, StopsBy, Tells};
 
 use crate::disks::{given, handed_back};
 use crate::input::{InputError, read_input};
 use crate::lines::{full, read_fault, scene_fault, too_long, write};
 use crate::status::{Ended, Status};
 use chv_control::Start;
-use chv_defs::{Name, Row, Scene, StopCause, Trace};
+use chv_defs::{Full, Name, Scene, StopCause, Trace};
 use chv_io::{Disk, Sink, Source};
 use chv_play::play;
 use chv_scene::SceneFault;
@@ -34,7 +38,7 @@ pub enum Stop {
 }
 
 /// Plays the scenario that the input is, and writes its trace, or the line that says why there is none.
-pub fn play_input<S: Source, K: Sink, D: Disk>(
+pub fn play_input<S: Source, K: Sink, D: Disk + Drop>(
     alloc: Global,
     input: &mut S,
     out: &mut K,
@@ -96,7 +100,7 @@ const TOO_LONG: Status = Status::TooLong { bytes: 16_777_217 };
 
 fn say_fault<K: Sink>(alloc: Global, out: &mut K, fault: SceneFault) -> Status
     ensures said { Tells (K.written out.old) (K.written out.new) (K.write_faults out.old) (K.write_faults out.new)
-        (stop.Scene fault) result }
+        (Stop.Scene fault) result }
     ensures later { K.write_faults out.old ≤ K.write_faults out.new }
 {
     match scene_fault(alloc, fault) {
@@ -113,7 +117,7 @@ fn say_fault<K: Sink>(alloc: Global, out: &mut K, fault: SceneFault) -> Status
 }
 
 // Plays a scenario, and writes its trace, or the line of the book that is full.
-fn play_scene<K: Sink, D: Disk>(
+fn play_scene<K: Sink, D: Disk + Drop>(
     alloc: Global,
     out: &mut K,
     disks: Vec<(Name, D)>,
@@ -156,17 +160,46 @@ fn report<K: Sink>(
     trace: Option<Trace>,
     cause: Option<StopCause>,
 ) -> Status
-    ensures reports { (shelf : List OnShelf) (sessions : Sessions) → Comes shelf (schedule shelf sessions) trace cause
-        → Reports shelf (schedule shelf sessions) (K.written out.old) (K.written out.new) (K.write_faults out.old) (K.write_faults out.new) result }
+    requires plain { IfSome trace (λ trace. IsPlain trace) }
+    ensures reports { (shelf : List OnShelf) (given : Result defs_trace.Trace defs_full.Full) → Comes shelf given trace cause
+        → Reports shelf given (K.written out.old) (K.written out.new) (K.write_faults out.old) (K.write_faults out.new) result }
     ensures later { K.write_faults out.old ≤ K.write_faults out.new }
 {
     match (trace, cause) {
-        (Some(trace), _) => match print(alloc, &trace, out) {
-            Ok(()) => Status::Done,
-            Err(PrintError::Memory) => Status::Memory,
-            Err(PrintError::Failed) => Status::WriteFault,
-        },
+        (Some(trace), None) => report_trace(alloc, out, &trace),
         (None, Some(StopCause::Full(book))) => report_full(alloc, out, book),
         _ => Status::Memory,
+    }
+}
+
+// Writes a trace.
+fn report_trace<K: Sink>(alloc: Global, out: &mut K, trace: &Trace) -> Status
+    requires plain { IsPlain trace.now }
+    ensures reports { ReportsTrace trace.now (K.written out.old) (K.written out.new) (K.write_faults out.old) (K.write_faults out.new) result }
+    ensures later { K.write_faults out.old ≤ K.write_faults out.new }
+{
+    match print(alloc, trace, out) {
+        Ok(()) => Status::Done,
+        Err(PrintError::Memory) => Status::Memory,
+        Err(PrintError::Failed) => Status::WriteFault,
+    }
+}
+
+// Writes the line of a book that is full.
+fn report_full<K: Sink>(alloc: Global, out: &mut K, book: Full) -> Status
+    ensures reports { ReportsFull book (K.written out.old) (K.written out.new) (K.write_faults out.old) (K.write_faults out.new) result }
+    ensures later { K.write_faults out.old ≤ K.write_faults out.new }
+{
+    match full(alloc, book) {
+        Ok(line) => write(
+            out,
+            line.as_str(),
+            Status::Full {
+                book: book.book,
+                entries: book.entries,
+                bytes: book.bytes,
+            },
+        ),
+        Err(_) => Status::Memory,
     }
 }

@@ -9,7 +9,10 @@ pub enum Status {
     /// The words are none of the program's.
     Usage,
     /// The scenario is refused: its first line that fails, counted from 1, and why.
-    Scene { line: u32, reason: Reason },
+    Scene {
+        line: u32,
+        reason: Reason,
+    },
     /// The input could not be read.
     ReadFault,
     /// The output could not be written.
@@ -23,7 +26,9 @@ pub enum Status {
         bytes: u64,
     },
     /// The input is longer than 16,777,216 bytes; it has at least so many.
-    TooLong { bytes: u64 },
+    TooLong {
+        bytes: u64,
+    },
 }
 
 impl Status {

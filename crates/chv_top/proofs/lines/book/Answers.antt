@@ -1,0 +1,7 @@
+use Rattle.std.proofs.Common.{string_bytes, ap, ◌∙◌}
+use Rattle.chv_defs.specs.TraceText.{book_text}
+use Rattle.chv_top.proofs.Texts.{bank_same, printed_same}
+use Rattle.chv_top.proofs.lines.book.Goals as goal
+
+pub returns-in-Bank : goal.returns-in-Bank
+returns-in-Bank c = rw c.in-Bank.is (printed_same string_bytes _ _ _ c.format.ensures.ok (bank_same _ _))
