@@ -1,8 +1,13 @@
-//! Stub.
+//! The reader of scenarios: the scene that a text spells, or its first line that fails.
 #![tactic(auto)]
 
-mod fault;
-mod reader;
+mod fields;
+mod lines;
+mod outside;
+mod reading;
+mod scenario;
+mod section;
+#[cfg(test)]
+mod tests;
 
-pub use fault::SceneFault;
-pub use reader::read;
+pub use scenario::{SceneFault, read};

@@ -18,9 +18,9 @@ use Rattle.chv_play.specs.Played.{Comes, IsLegalRun}
 use Rattle.chv_scene.specs.Answer.{answer_of, scene_of}
 use Rattle.chv_top.specs.Outcome.{IsComplete, IsFull, IsInput, IsOwed, IsPartOfOwed, IsPlayed, IsRead, IsRefused, IsTooLong, most_input, of_scenario, of_schedule, outcome_of, status_of, text_of, TooLong, Refused, Fills, Gives, Outcome}
 use Rattle.chv_top.specs.Says.{IsPlain, IsScene, Reports, ReportsFull, ReportsTrace, Says, StopsBy, Tells, Writes}
-use Rattle.chv_control.specs.Shelf.{sectors_of, shelf_of}
-use Rattle.chv_scene.specs.declared.fault.SceneFault.{SceneFault}
-use Rattle.chv_top.specs.Given.{as_given, handed_in}
+use Rattle.chv_control.specs.Shelf as control
+use Rattle.chv_scene.specs.declared.scenario.SceneFault.{SceneFault}
+use Rattle.chv_top.specs.Given.{as_given, handed_in, shelf_of}
 use Rattle.chv_top.specs.Taken.{HasRead}
 use Rattle.chv_top.specs.declared.status.Status.{Status}
 use Rattle.chv_top.specs.declared.status.Status.TheVariants as status
@@ -207,7 +207,7 @@ handed_given [] = refl
 handed_given (disk ∷ disks) = ap (λ rest. disk ∷ rest) (handed_given disks)
 
 -- they stand by as these disks do
-pub shelf_given : {D : Type 0} (count : D → ℕ) (disks : List (List ℕ × D)) → shelf_of (sectors_of count) (as_given disks) ≡ shelf_of count disks
+pub shelf_given : {D : Type 0} (count : D → ℕ) (disks : List (List ℕ × D)) → control.shelf_of (control.sectors_of count) (as_given disks) ≡ shelf_of count disks
 shelf_given count [] = refl
 shelf_given count (disk ∷ disks) = ap (λ rest. record { name = disk.0; sectors = count disk.1 } ∷ rest) (shelf_given count disks)
 
@@ -217,7 +217,10 @@ shelf_given count (disk ∷ disks) = ap (λ rest. record { name = disk.0; sector
 pub scene_is : (r : Result Sessions Fault) (scene : Scene) → Ok scene ≡ answer_of r → r ≡ Ok scene.sessions
 scene_is (Ok sessions) scene e =
     let same : scene ≡ scene_of sessions = cc in
-    ap (λ (s : Scene). Ok {E = Fault} s.sessions) (sym same)
+    ap (λ (s : Scene). ok_sessions s.sessions) (sym same)
+  where
+    ok_sessions : Sessions → Result Sessions Fault
+    ok_sessions sessions = Ok sessions
 scene_is (Err fault) scene e = absurd (cc)
 
 -- a fault that was read
@@ -225,4 +228,7 @@ pub fault_is : (r : Result Sessions Fault) (fault : SceneFault) → Err fault �
 fault_is (Ok sessions) fault e = absurd (cc)
 fault_is (Err f) fault e =
     let same : fault ≡ record { line = f.line; reason = f.reason } = cc in
-    ap (λ (x : SceneFault). Err {T = Sessions} (record { line = x.line; reason = x.reason })) (sym same)
+    ap (λ (x : SceneFault). err_fault x) (sym same)
+  where
+    err_fault : SceneFault → Result Sessions Fault
+    err_fault x = Err (record { line = x.line; reason = x.reason })

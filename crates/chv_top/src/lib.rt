@@ -10,3 +10,6 @@ mod top;
 
 pub use status::{Ended, Status};
 pub use top::{play_program, run_program};
+
+#[cfg(test)]
+mod tests;
