@@ -16,4 +16,4 @@ mod write;
 
 pub use laws::{written_configuration_is_read, written_disk_is_read};
 pub use read::{config_of, disk_of, resize_of, text_of, zone_of};
-pub use write::{config_text, counters_text, device_text, disk_text, info_text};
+pub use write::{config_text, counters_text, device_text, disk_text, info_text, quoted_text};

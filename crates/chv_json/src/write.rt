@@ -3,6 +3,7 @@ ghost use Rattle.std.specs.Prelude.{◌≡◌, IfOk, false};
 ghost use Rattle.serde_json.specs.View.{view};
 ghost use Rattle.serde_json.specs.Written.{compact_text, has_float};
 ghost use Rattle.chv_defs.specs.JsonTexts as texts;
+ghost use Rattle.chv_defs.specs.TraceText.{quoted};
 
 use crate::info_json::counters;
 use crate::to_json::ToJson;
@@ -15,6 +16,13 @@ fn compact(alloc: Global, value: Value) -> Result<Text, AllocError>
     ensures { IfOk result (λ t. t ≡ compact_text (view value)) }
 {
     Ok(Text::new(value.to_string(alloc)?))
+}
+
+/// A text as a JSON string (RFC 8259, 7).
+pub fn quoted_text(alloc: Global, text: &str) -> Result<Text, AllocError>
+    ensures { IfOk result (λ t. t ≡ quoted text.now) }
+{
+    compact(alloc, Value::String(String::from_str(alloc, text)?))
 }
 
 /// The text of a configuration, as `vm.create` takes it and `vm.info` shows it.

@@ -1,0 +1,87 @@
+-- Texts that are joined, and the parts of a trace's text.
+use Rattle.std.proofs.Common.{◌≡◌, ℕ, ◌+◌, ◌<◌, List, [], ◌∷◌, ◌++◌, length, take, drop, get_or, flat_map, codes, decimal, Result, Ok, Err, IfOk, sym, ◌∙◌, ap, append_assoc, refl}
+use Rattle.std.proofs.lemmas.List.{append-nil, take-append-drop}
+use Rattle.std.proofs.lemmas.Grind.{take_at_read, flat_map-append}
+use Rattle.chv_defs.specs.ScriptText.{field}
+use Rattle.chv_defs.specs.TraceText.{pairs_or_dash, control_line, session_end_text, session_part, trace_text}
+use Rattle.chv_defs.specs.declared.control.ControlEntry.{ControlEntry}
+use Rattle.chv_defs.specs.declared.scene.MadeDisk.{MadeDisk}
+use Rattle.chv_defs.specs.declared.scene.VcpuSection.{VcpuSection}
+use Rattle.chv_defs.specs.declared.trace.BankTrace.{BankTrace}
+use Rattle.chv_defs.specs.declared.trace.SessionTrace.{SessionTrace}
+use Rattle.chv_defs.specs.declared.trace.Trace.{Trace}
+use Rattle.chv_trace.specs.Printing.{head_text, end_line}
+
+pub regrouped : (a b c : List ℕ) → (a ++ b) ++ c ≡ a ++ (b ++ c)
+regrouped a b c = append_assoc a b c
+
+five : (a b c d e : List ℕ) → a ++ b ++ c ++ d ++ e ≡ a ++ (b ++ (c ++ (d ++ e)))
+five a b c d e = simp append_assoc
+
+four_fields : (a b c d e : List ℕ) → a ++ (32 ∷ (b ++ (32 ∷ (c ++ (32 ∷ (d ++ e)))))) ≡ a ++ field b ++ field c ++ field d ++ e
+four_fields a b c d e = sym (five a (32 ∷ b) (32 ∷ c) (32 ∷ d) e)
+
+-- a vCPU's context, with its flag and its registers
+pub cpu_same : (v p f h r flag regs : List ℕ) → h ≡ flag → r ≡ regs → codes "cpu " ++ (v ++ (32 ∷ (p ++ (32 ∷ (f ++ (32 ∷ (h ++ r))))))) ≡ codes "cpu" ++ field v ++ field p ++ field f ++ field flag ++ regs
+cpu_same v p f h r flag regs same_flag same_regs =
+    four_fields (codes "cpu" ++ field v) p f h r
+    ∙ ap (λ x. codes "cpu" ++ field v ++ field p ++ field f ++ field x ++ r) same_flag
+    ∙ ap (λ x. codes "cpu" ++ field v ++ field p ++ field f ++ field flag ++ x) same_regs
+
+-- what is printed is the same text
+pub printed_same : {S E : Type 0} (bytes : S → List ℕ) (r : Result S E) (a b : List ℕ) → IfOk r (λ s. bytes s ≡ a) → a ≡ b → IfOk r (λ s. bytes s ≡ b)
+printed_same bytes (Ok s) a b h e = h ∙ e
+printed_same bytes (Err x) a b h e = tt
+
+-- the items up to the next one
+pub flat_map_next : {X : Type 0} (f : X → List ℕ) (xs : List X) (i : ℕ) (d x : X) → i < length xs → x ≡ get_or xs i d → flat_map f (take i xs) ++ f x ≡ flat_map f (take (i + 1) xs)
+flat_map_next f xs i d x h e =
+    ap (λ y. flat_map f (take i xs) ++ f y) e
+    ∙ ap (λ l. flat_map f (take i xs) ++ l) (sym (append-nil (f (get_or xs i d))))
+    ∙ sym (flat_map-append f (take i xs) (get_or xs i d ∷ []))
+    ∙ sym (ap (flat_map f) (take_at_read xs i d h).1)
+
+-- the items up to the next one, and those after it
+pub flat_map_rest : {X : Type 0} (f : X → List ℕ) (xs : List X) (i : ℕ) (d x : X) → i < length xs → x ≡ get_or xs i d → flat_map f (take i xs) ++ f x ++ flat_map f (drop (i + 1) xs) ≡ flat_map f xs
+flat_map_rest f xs i d x h e =
+    ap (λ l. l ++ flat_map f (drop (i + 1) xs)) (flat_map_next f xs i d x h e)
+    ∙ sym (flat_map-append f (take (i + 1) xs) (drop (i + 1) xs))
+    ∙ ap (flat_map f) (take-append-drop (i + 1) xs)
+
+-- ---- the parts of a text
+
+session_regrouped : (s n e l k a r b : List ℕ) → (s ++ n ++ e ++ l) ++ ((k ++ a) ++ l) ++ ((r ++ b) ++ l) ≡ s ++ n ++ e ++ (l ++ k) ++ a ++ (l ++ r) ++ b ++ l
+session_regrouped s n e l k a r b = simp append_assoc
+
+session_joined : (n e a b : List ℕ) → (codes "session" ++ field n ++ field e ++ codes "\n") ++ (codes "ask " ++ a ++ codes "\n") ++ (codes "reply " ++ b ++ codes "\n") ≡ codes "session" ++ field n ++ field e ++ codes "\nask" ++ field a ++ codes "\nreply" ++ field b ++ codes "\n"
+session_joined n e a b = session_regrouped (codes "session") (field n) (field e) (codes "\n") (codes "ask") (field a) (codes "reply") (field b)
+
+-- a session's lines
+pub session_lines : (s : SessionTrace) → end_line s ++ (codes "ask " ++ pairs_or_dash s.log.asked ++ codes "\n") ++ (codes "reply " ++ pairs_or_dash s.log.replied ++ codes "\n") ≡ session_part s
+session_lines s = session_joined (decimal s.session) (session_end_text s.log.end) (pairs_or_dash s.log.asked) (pairs_or_dash s.log.replied)
+
+plain_regrouped : (t u z l k n c s e : List ℕ) → ((t ++ u) ++ z ++ (l ++ k) ++ n ++ l) ++ c ++ s ++ e ≡ t ++ (u ++ z ++ l ++ [] ++ []) ++ (k ++ n ++ l ++ c) ++ [] ++ s ++ e
+plain_regrouped t u z l k n c s e = simp (append_assoc, append-nil)
+
+plain_joined : (z n c s : List ℕ) → (codes "trace 1\nscene" ++ field z ++ codes "\ncontrol" ++ field n ++ codes "\n") ++ c ++ s ++ codes "end\n"
+    ≡ codes "trace 1\n" ++ (codes "scene" ++ field z ++ codes "\n" ++ [] ++ []) ++ (codes "control" ++ field n ++ codes "\n" ++ c) ++ [] ++ s ++ codes "end\n"
+plain_joined z n c s = plain_regrouped (codes "trace 1\n") (codes "scene") (field z) (codes "\n") (codes "control") (field n) c s (codes "end\n")
+
+-- a trace without disks, scripts and banks
+abbrev plain_trace : List ControlEntry → List SessionTrace → Trace
+plain_trace control sessions = record { disks = []; vcpus = []; control = control; banks = []; sessions = sessions }
+
+is_plain : (t : Trace) → t.disks ≡ [] → t.vcpus ≡ [] → t.banks ≡ [] → t ≡ plain_trace t.control t.sessions
+is_plain t d v b =
+    let with_disks : List MadeDisk → Trace = λ x. record { disks = x; vcpus = t.vcpus; control = t.control; banks = t.banks; sessions = t.sessions } in
+    let with_vcpus : List VcpuSection → Trace = λ x. record { disks = []; vcpus = x; control = t.control; banks = t.banks; sessions = t.sessions } in
+    let with_banks : List BankTrace → Trace = λ x. record { disks = []; vcpus = []; control = t.control; banks = x; sessions = t.sessions } in
+    ap with_disks d ∙ ap with_vcpus v ∙ ap with_banks b
+
+plain_text : (t : Trace) → t.disks ≡ [] → t.vcpus ≡ [] → t.banks ≡ [] → head_text (length t.control) ++ flat_map control_line t.control ++ flat_map session_part t.sessions ++ codes "end\n" ≡ trace_text t
+plain_text t d v b = plain_joined (decimal 0) (decimal (length t.control)) (flat_map control_line t.control) (flat_map session_part t.sessions) ∙ ap trace_text (sym (is_plain t d v b))
+
+-- the parts that are added make a trace's text
+pub trace_parts : (t : Trace) (n : ℕ) (control : List ControlEntry) (sessions : List SessionTrace) → t.disks ≡ [] → t.vcpus ≡ [] → t.banks ≡ [] → n ≡ length t.control → control ≡ t.control → sessions ≡ t.sessions
+    → head_text n ++ flat_map control_line control ++ flat_map session_part sessions ++ codes "end\n" ≡ trace_text t
+trace_parts t n control sessions d v b e f g = rw (e, f, g) (plain_text t d v b)

@@ -1,0 +1,14 @@
+use Rattle.std.proofs.Common.{◌≤◌, flat_map, take, string_bytes}
+use Rattle.chv_defs.specs.Numbers.{pair}
+use Rattle.chv_trace.specs.Printing.{Adds}
+use Rattle.chv_trace.proofs.pieces.push_each_pair.Given as goal
+
+-- what was added so far
+abbrev pub invariant-loop-byte : goal.invariant-loop-byte
+invariant-loop-byte g l =
+    let written = g.K.Sink.written in
+    let faults = g.K.Sink.write_faults in
+    record {
+      added : Adds (written l.initial.out) (string_bytes l.initial.buffer) (written l.out) (string_bytes l.buffer) (flat_map pair (take l.byte-index l.bytes));
+      later : faults l.initial.out ≤ faults l.out;
+    }

@@ -1,0 +1,29 @@
+-- What printing through a buffer comes to: of all bytes that were added so far, a first part was put into the output,
+-- and the rest is held.
+use Rattle.std.specs.Prelude.{◌≡◌, ℕ, List, ◌++◌, codes, Option}
+use Rattle.chv_defs.specs.Numbers.{dec_text}
+use Rattle.chv_defs.specs.Outside.{Gains}
+use Rattle.chv_defs.specs.ScriptText.{field}
+use Rattle.chv_defs.specs.TraceText.{session_end_text}
+use Rattle.chv_defs.specs.declared.trace.SessionTrace.{SessionTrace}
+
+-- Bytes were added to those that were held: some were put, and the others are held now.
+pub record Adds (before : Option (List ℕ)) (held : List ℕ) (after : Option (List ℕ)) (held_after bytes : List ℕ) : Type 0 where
+  pub put : List ℕ
+  pub gains : Gains before after put
+  pub all : put ++ held_after ≡ held ++ bytes
+
+-- Bytes were to be added to those that were held, and this was broken off: a first part of all of them was put.
+pub record BreaksOff (before : Option (List ℕ)) (held : List ℕ) (after : Option (List ℕ)) (bytes : List ℕ) : Type 0 where
+  pub put : List ℕ
+  pub lost : List ℕ
+  pub gains : Gains before after put
+  pub all : put ++ lost ≡ held ++ bytes
+
+-- the lines before the control entries, where a trace has no disks and scripts
+abbrev pub head_text : ℕ → List ℕ
+head_text entries = codes "trace 1\nscene" ++ field (dec_text 0) ++ codes "\ncontrol" ++ field (dec_text entries) ++ codes "\n"
+
+-- the first line of a session
+abbrev pub end_line : SessionTrace → List ℕ
+end_line s = codes "session" ++ field (dec_text s.session) ++ field (session_end_text s.log.end) ++ codes "\n"

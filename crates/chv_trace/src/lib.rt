@@ -1,0 +1,18 @@
+//! The text of a trace: everything that happened in a run, put into an output piece by piece.
+#![tactic(auto)]
+
+mod accesses;
+mod calls;
+mod fields;
+mod notes;
+mod pieces;
+mod print_error;
+mod printer;
+mod replies;
+mod sessions;
+
+pub use print_error::PrintError;
+pub use printer::print;
+
+#[cfg(test)]
+mod tests;

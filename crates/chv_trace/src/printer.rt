@@ -1,0 +1,118 @@
+// The printer of traces.
+ghost use Rattle.std.specs.Prelude.{◌≡◌, ◌≤◌, ◌++◌, [], IfOk, OnOk, OnErr, flat_map, string_bytes};
+ghost use Rattle.chv_defs.specs.Outside.{Rose, Gains, GainsPart};
+ghost use Rattle.chv_defs.specs.TraceText.{control_line, trace_text};
+ghost use Rattle.chv_trace.specs.Printing.{Adds, BreaksOff, head_text};
+
+use crate::PrintError;
+use crate::calls::call_text;
+use crate::pieces::{push, put_all};
+use crate::replies::reply_text;
+use crate::sessions::push_sessions;
+use chv_defs::{ControlEntry, Trace};
+use chv_io::Sink;
+use std::alloc::{AllocError, Global};
+
+/// Puts the text of a trace into an output, piece by piece: beside one line, no more than a piece of 65,536 bytes is
+/// held at a time. A trace has no disks, scripts and banks here. `Memory` may come where memory is wanted, `Failed`
+/// comes where the output fails; after either the output has a first part of the text.
+pub fn print<K: Sink>(alloc: Global, trace: &Trace, out: &mut K) -> Result<(), PrintError>
+    requires disks { trace.now.disks ≡ [] }
+    requires vcpus { trace.now.vcpus ≡ [] }
+    requires banks { trace.now.banks ≡ [] }
+    ensures ok { OnOk result (Gains (K.written out.old) (K.written out.new) (trace_text trace.now)) }
+    ensures part { OnErr result (GainsPart (K.written out.old) (K.written out.new) (trace_text trace.now)) }
+    ensures cause { result ≡ Err PrintError.Failed → Rose (K.write_faults out.old) (K.write_faults out.new) }
+    ensures later { K.write_faults out.old ≤ K.write_faults out.new }
+{
+    let mut buffer = String::new(alloc);
+    push_trace(alloc, out, &mut buffer, trace)?;
+    put_all(out, &mut buffer)
+}
+
+fn push_trace<K: Sink>(
+    alloc: Global,
+    out: &mut K,
+    buffer: &mut String,
+    trace: &Trace,
+) -> Result<(), PrintError>
+    requires disks { trace.now.disks ≡ [] }
+    requires vcpus { trace.now.vcpus ≡ [] }
+    requires banks { trace.now.banks ≡ [] }
+    ensures ok { OnOk result (Adds (K.written out.old) (string_bytes buffer.old) (K.written out.new) (string_bytes buffer.new) (trace_text trace.now)) }
+    ensures part { OnErr result (BreaksOff (K.written out.old) (string_bytes buffer.old) (K.written out.new) (trace_text trace.now)) }
+    ensures cause { result ≡ Err PrintError.Failed → Rose (K.write_faults out.old) (K.write_faults out.new) }
+    ensures later { K.write_faults out.old ≤ K.write_faults out.new }
+{
+    push_head(alloc, out, buffer, trace.control.len())?;
+    push_entries(alloc, out, buffer, trace.control.as_slice())?;
+    push_sessions(alloc, out, buffer, trace.sessions.as_slice())?;
+    push(out, buffer, "end\n")
+}
+
+// The lines before the control entries, of which the sections of disks and scripts are none.
+fn push_head<K: Sink>(
+    alloc: Global,
+    out: &mut K,
+    buffer: &mut String,
+    entries: usize,
+) -> Result<(), PrintError>
+    ensures ok { OnOk result (Adds (K.written out.old) (string_bytes buffer.old) (K.written out.new) (string_bytes buffer.new) (head_text entries)) }
+    ensures part { OnErr result (BreaksOff (K.written out.old) (string_bytes buffer.old) (K.written out.new) (head_text entries)) }
+    ensures cause { result ≡ Err PrintError.Failed → Rose (K.write_faults out.old) (K.write_faults out.new) }
+    ensures later { K.write_faults out.old ≤ K.write_faults out.new }
+{
+    let head = head(alloc, entries)?;
+    push(out, buffer, head.as_str())
+}
+
+#[tactic(auto, using(crate::proofs::Joined::regrouped))]
+fn head(alloc: Global, entries: usize) -> Result<String, AllocError>
+    ensures { IfOk result (λ head. string_bytes head ≡ head_text entries) }
+{
+    let lines = 0u64;
+    format!(in alloc; "trace 1\nscene {lines}\ncontrol {entries}\n")
+}
+
+fn push_entries<K: Sink>(
+    alloc: Global,
+    out: &mut K,
+    buffer: &mut String,
+    entries: &[ControlEntry],
+) -> Result<(), PrintError>
+    ensures ok { OnOk result (Adds (K.written out.old) (string_bytes buffer.old) (K.written out.new) (string_bytes buffer.new) (flat_map control_line entries.now)) }
+    ensures part { OnErr result (BreaksOff (K.written out.old) (string_bytes buffer.old) (K.written out.new) (flat_map control_line entries.now)) }
+    ensures cause { result ≡ Err PrintError.Failed → Rose (K.write_faults out.old) (K.write_faults out.new) }
+    ensures later { K.write_faults out.old ≤ K.write_faults out.new }
+{
+    for entry in entries {
+        push_entry(alloc, out, buffer, entry)?;
+    }
+    Ok(())
+}
+
+fn push_entry<K: Sink>(
+    alloc: Global,
+    out: &mut K,
+    buffer: &mut String,
+    entry: &ControlEntry,
+) -> Result<(), PrintError>
+    ensures ok { OnOk result (Adds (K.written out.old) (string_bytes buffer.old) (K.written out.new) (string_bytes buffer.new) (control_line entry.now)) }
+    ensures part { OnErr result (BreaksOff (K.written out.old) (string_bytes buffer.old) (K.written out.new) (control_line entry.now)) }
+    ensures cause { result ≡ Err PrintError.Failed → Rose (K.write_faults out.old) (K.write_faults out.new) }
+    ensures later { K.write_faults out.old ≤ K.write_faults out.new }
+{
+    let line = entry_line(alloc, entry)?;
+    push(out, buffer, line.as_str())
+}
+
+/// The line of an entry: the caller, the call, an arrow, the reply.
+#[tactic(auto, using(crate::proofs::Joined::regrouped))]
+pub(crate) fn entry_line(alloc: Global, entry: &ControlEntry) -> Result<String, AllocError>
+    ensures { IfOk result (λ line. string_bytes line ≡ control_line entry.now) }
+{
+    let caller = entry.caller;
+    let call = call_text(alloc, &entry.call)?;
+    let reply = reply_text(alloc, &entry.reply)?;
+    format!(in alloc; "{caller} {call} -> {reply}\n")
+}
