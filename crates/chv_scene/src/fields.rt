@@ -1,0 +1,110 @@
+// The fields of a line.
+ghost use Rattle.std.specs.Prelude.{◌≡◌, ◌==◌, ◌&&◌, nat_le, length, option_map};
+ghost use Rattle.std.specs.List.{list_all};
+ghost use Rattle.std.specs.Str.{bytes_eq};
+ghost use Rattle.chv_defs.specs.Name.{is_name_byte, starts_with_dot};
+ghost use Rattle.chv_defs.specs.Name as name;
+ghost use Rattle.chv_defs.specs.ScenarioText.{is_route_byte};
+ghost use Rattle.chv_defs.specs.ScenarioText as line;
+ghost use Rattle.chv_scene.specs.Cuts.{cut_at};
+
+use chv_num::read_dec;
+
+const SPACE: u8 = b' ';
+
+/// What stands before the first such byte, and what stands behind it where there is one.
+pub(crate) fn cut(text: &[u8], byte: u8) -> (&[u8], Option<&[u8]>)
+    ensures before { result.0.now ≡ (cut_at byte text.now).0 }
+    ensures behind { option_map (λ s. s.now) result.1 ≡ (cut_at byte text.now).1 }
+{
+    for (i, b) in text.iter().enumerate() {
+        if *b == byte {
+            return (&text[..i], Some(&text[i + 1..]));
+        }
+    }
+    (text, None)
+}
+
+/// The first field, and what stands behind the space after it.
+pub(crate) fn at_space(text: &[u8]) -> (&[u8], Option<&[u8]>)
+    ensures before { result.0.now ≡ (line.at_space text.now).0 }
+    ensures behind { option_map (λ s. s.now) result.1 ≡ (line.at_space text.now).1 }
+{
+    cut(text, SPACE)
+}
+
+/// Whether a space stands in the text, so that it is more than one field.
+pub(crate) fn has_space(text: &[u8]) -> bool
+    ensures { result ≡ line.has_space text.now }
+{
+    text.iter().any(|b| *b == SPACE)
+}
+
+/// Whether the field is this word.
+pub(crate) fn is_word(field: &[u8], word: &str) -> bool
+    ensures { result ≡ bytes_eq field.now word.now }
+{
+    field == word.as_bytes()
+}
+
+fn is_route_letter(byte: u8) -> bool
+    ensures { result ≡ is_route_byte byte }
+{
+    (97 <= byte && byte <= 122) || (48 <= byte && byte <= 57) || byte == b'.' || byte == b'-'
+}
+
+fn are_route_letters(text: &[u8]) -> bool
+    ensures { result ≡ list_all is_route_byte text.now }
+{
+    text.iter().all(|b| is_route_letter(*b))
+}
+
+/// Whether the field is a name of a route.
+pub(crate) fn is_route_name(field: &[u8]) -> bool
+    ensures { result ≡ line.is_route_name field.now }
+{
+    1 <= field.len() && field.len() <= 32 && are_route_letters(field)
+}
+
+fn is_name_letter(byte: u8) -> bool
+    ensures { result ≡ is_name_byte byte }
+{
+    (48 <= byte && byte <= 57)
+        || (65 <= byte && byte <= 90)
+        || (97 <= byte && byte <= 122)
+        || byte == b'.'
+        || byte == b'_'
+        || byte == b'-'
+}
+
+fn are_name_letters(text: &[u8]) -> bool
+    ensures { result ≡ list_all is_name_byte text.now }
+{
+    text.iter().all(|b| is_name_letter(*b))
+}
+
+fn begins_with_dot(text: &[u8]) -> bool
+    ensures { result ≡ starts_with_dot text.now }
+{
+    match text {
+        [first, ..] => *first == b'.',
+        [] => false,
+    }
+}
+
+/// Whether the field is a name of a disk.
+pub(crate) fn is_name(field: &[u8]) -> bool
+    ensures { result ≡ name.is_name field.now }
+{
+    1 <= field.len() && field.len() <= 64 && are_name_letters(field) && !begins_with_dot(field)
+}
+
+/// Whether the field spells a number from `low` to `high`.
+pub(crate) fn is_number_in(low: u64, high: u64, field: &[u8]) -> bool
+    ensures { result ≡ line.is_number_in low high field.now }
+{
+    match read_dec(field) {
+        Some(number) => low <= number && number <= high,
+        None => false,
+    }
+}

@@ -1,0 +1,56 @@
+// Scenarios, read from their text.
+ghost use Rattle.std.specs.Prelude.{◌≡◌, ◌+◌, ◌^◌, ◌<◌, [], length, IfOk};
+ghost use Rattle.chv_defs.specs.ScenarioText.{read_scenario};
+ghost use Rattle.chv_scene.specs.Answer.{answer_of};
+ghost use Rattle.chv_scene.specs.Reading.{resumed};
+
+use crate::lines::next_line;
+use crate::reading::Reading;
+use chv_defs::{Reason, Row, Scene};
+use std::alloc::{AllocError, Global};
+
+/// The first line of a scenario that fails, counted from 1, and why. Where a section has no end, it is the line behind
+/// the last one.
+#[derive(Clone, Copy, PartialEq, Eq, Debug)]
+pub struct SceneFault {
+    pub line: u32,
+    pub reason: Reason,
+}
+
+/// Reads a scenario, or says which of its lines is the first that fails, and why. Each byte is looked at a bounded number
+/// of times, and a body is copied once. So far a scenario has sessions alone; the scene has no disk, no vCPU and no order.
+pub fn read(alloc: Global, text: &[u8]) -> Result<Result<Scene, SceneFault>, AllocError>
+    requires { length text.now + 1 < 2 ^ 32 }
+    ensures { IfOk result (λ answer. answer ≡ answer_of (read_scenario text.now)) }
+{
+    let mut reading = Reading::new(alloc);
+    let mut line: u32 = 1;
+    let mut rest = text;
+    while !rest.is_empty() {
+        let (text, is_ended, behind) = next_line(rest);
+        if let Some(reason) = reading.take(alloc, text, is_ended)? {
+            return Ok(Err(SceneFault { line, reason }));
+        }
+        line += 1;
+        rest = behind;
+    }
+    Ok(finish(alloc, reading, line))
+}
+
+// The answer where this is the line behind the last one.
+fn finish(alloc: Global, reading: Reading, line: u32) -> Result<Scene, SceneFault>
+    ensures { result ≡ answer_of (resumed reading line []) }
+{
+    match reading.asked {
+        Some(_) => Err(SceneFault {
+            line,
+            reason: Reason::Unclosed,
+        }),
+        None => Ok(Scene {
+            disks: Row::empty(alloc),
+            vcpus: Row::empty(alloc),
+            sessions: reading.ended,
+            order: None,
+        }),
+    }
+}
