@@ -3,11 +3,6 @@ use Rattle.std.proofs.Common.{◌≡◌, ℕ, ◌<◌, ◌≤◌, ◌==◌, Bool
 use Rattle.chv_defs.specs.ScenarioText.{Line, lines_of, onto_line, at_space}
 use Rattle.chv_scene.specs.Cuts.{cut_at}
 
--- the first space cuts a text as the definitions say
-pub at_space-cut : (text : List ℕ) → at_space text ≡ cut_at 32 text
-at_space-cut [] = refl
-at_space-cut (b ∷ bytes) = rw (at_space-cut bytes)
-
 -- whether something stands behind
 abbrev pub is_there : Option (List ℕ) → Bool
 is_there None = false
