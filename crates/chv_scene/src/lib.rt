@@ -2,6 +2,7 @@
 #![tactic(auto)]
 
 mod fields;
+mod laws;
 mod lines;
 mod outside;
 mod reading;
@@ -10,4 +11,5 @@ mod section;
 #[cfg(test)]
 mod tests;
 
+pub use laws::what_is_read_is_spelled;
 pub use scenario::{SceneFault, read};
