@@ -13,7 +13,7 @@ use Rattle.chv_defs.specs.JsonBodies.{◌>>=◌}
 use Rattle.chv_defs.specs.Routes.{call_of_request, call_named, get_call, put_call, reply_to_call, route_name}
 use Rattle.chv_defs.specs.SessionBytes.{Makes, Holds, AnsweredBy}
 use Rattle.chv_session.specs.declared.respond.Then.{Then}
-use Rattle.chv_session.specs.Response.{HasMadeAlso, Serves, then_after}
+use Rattle.chv_session.specs.Response.{HasMadeAlso, Serves, BreaksIn, then_after}
 
 -- ---- what is held
 
@@ -127,3 +127,18 @@ serves_ok before after request c found last bytes response after_it halted halte
     goes,
   ),
 )
+
+-- a request whose calls were made, and whose reply was not
+pub breaks_ok : (before after : List Answer) (request : Request) (c : ControlCall) (found : Result ControlCall Rule)
+    (last : ControlCall × ControlReply) → found ≡ call_of_request request → found ≡ Ok c
+    → HasMadeAlso before after (λ made. Makes c made (record { call = last.0; reply = last.1 }))
+    → HasMadeAlso before after (λ made. BreaksIn request made)
+breaks_ok before after request c found last is ok makes =
+    let bytes = reply_to_call last.0 last.1 request.last in (
+      makes.0,
+      makes.1,
+      inr (
+        bytes,
+        subst (λ r. AnsweredBy r request.last makes.0 bytes) (sym ok ∙ is) (record { call = last.0; reply = last.1 }, makes.2, refl),
+      ),
+    )
