@@ -11,16 +11,15 @@ use Rattle.chv_defs.specs.Outside.{Gains, GainsPart}
 use Rattle.chv_defs.specs.Requests.{BeginsWith}
 use Rattle.chv_defs.specs.SessionBytes.{Answered, AreAnswered, has_last, IsOpen, EndsAs, StopsAs, IsSessionLog}
 use Rattle.chv_http.proofs.CutLemmas.{cuts_into_append, cuts_into_join}
-use Rattle.chv_session.specs.declared.next.Next.{Next}
 use Rattle.chv_session.specs.declared.next.Next.TheVariants as next
 use Rattle.chv_session.specs.declared.state.State.{State}
 use Rattle.chv_session.specs.declared.state.State.TheVariants as state
 use Rattle.chv_session.specs.Talk.{Talk, new_talk}
 use Rattle.chv_session.specs.Moment.{Moment, Faults, faults}
 use Rattle.chv_session.specs.Response.{StopsIn, Leaves}
-use Rattle.chv_session.specs.Step.{Step, Answers, state_behind, ComesFrom, ComesTo, LosesFrom, GetsLost, ComesToEnd, EndsBy, Outcome, Stops, BreaksAt, Breaks}
+use Rattle.chv_session.specs.Step.{Answers, state_behind, ComesFrom, LosesFrom, ComesToEnd, EndsBy, Stops, BreaksAt}
 use Rattle.chv_session.proofs.TakingLemmas.{gains_join}
-use Rattle.chv_session.specs.Laws.{Runs, EndsAsSession, IsSessionWhereLeft, IsSessionWhereLost, IsReplyTo, PutsPart, PutsAt, PutsItsReplies, PutsItsRepliesWhereLost}
+use Rattle.chv_session.specs.Laws.{Runs, EndsAsSession, IsSessionWhereLeft, IsSessionWhereLost, PutsPart, PutsAt, PutsItsReplies, PutsItsRepliesWhereLost}
 
 -- ---- requests so far
 

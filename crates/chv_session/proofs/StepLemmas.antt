@@ -1,5 +1,5 @@
 -- What one call comes to, from what was found to where the session stands.
-use Rattle.std.proofs.Common.{◌≡◌, ◌≢◌, ◌≤◌, ◌<◌, ◌==◌, ℕ, Bool, true, false, List, [], ◌∷◌, ◌++◌, length, take, Option, Some, None, refl, sym, ap, subst, ◌∙◌, inl, inr, arith, append_assoc}
+use Rattle.std.proofs.Common.{◌≡◌, ◌≢◌, ◌≤◌, ◌<◌, ◌==◌, ℕ, Bool, true, false, List, [], ◌∷◌, ◌++◌, length, Option, Some, None, refl, sym, ap, subst, ◌∙◌, inl, inr, arith, append_assoc}
 use Rattle.std.proofs.lemmas.List.{append-nil}
 use Rattle.std.proofs.lemmas.Bool.{eqb-true}
 use Rattle.std.specs.List.{concat}
@@ -16,14 +16,13 @@ use Rattle.chv_session.specs.declared.fill.Found.{Found}
 use Rattle.chv_session.specs.declared.fill.Found.TheVariants as found
 use Rattle.chv_session.specs.declared.respond.Then.{Then}
 use Rattle.chv_session.specs.declared.respond.Then.TheVariants as then_is
-use Rattle.chv_session.specs.declared.next.Next.{Next}
 use Rattle.chv_session.specs.declared.next.Next.TheVariants as next
 use Rattle.chv_session.specs.declared.state.State.{State}
 use Rattle.chv_session.specs.declared.state.State.TheVariants as state
 use Rattle.chv_session.specs.Moment.{Faults, faults}
 use Rattle.chv_session.specs.Taking.{TakesPieces}
 use Rattle.chv_session.specs.Found.{IsFound, Finds, IsCaused}
-use Rattle.chv_session.specs.Response.{HasMadeAlso, StopsIn, BreaksIn, BreaksOn, Responds, Sends, Finishes, IsEnd, then_after, end_at}
+use Rattle.chv_session.specs.Response.{HasMadeAlso, StopsIn, BreaksOn, Responds, Sends, Finishes, IsEnd, then_after, end_at}
 use Rattle.chv_session.specs.Step.{said_at, state_behind, Answers, ComesToEnd, EndsBy, Outcome, Step, Halts, BreaksAt, Breaks}
 
 -- ---- what is put, and what rose
@@ -128,7 +127,7 @@ comes_is (found.Request request) all response planned then_of hand rest asked re
     sent_some planned then_of serves.0 hand rest asked replied replied_after put put_after made halted halted_after counts
     (subst (λ r. Sends r planned then_of replied replied_after put put_after counts.writes counts.writes_after) serves.1 sends)
     (λ replies gains. subst (λ t. Comes t hand rest asked replied replied_after put put_after made halted halted_after counts) (sym serves.2)
-        (answer_comes request request.last serves.0 hand rest asked replied replied_after put put_after made halted halted_after counts refl is_found serves.3 serves.4 replies gains))
+    (answer_comes request request.last serves.0 hand rest asked replied replied_after put put_after made halted halted_after counts refl is_found serves.3 serves.4 replies gains))
     (λ rose. inr (inr (request, is_found, serves.3, rose))) serves.4
 comes_is (found.Request request) all response planned then_of hand rest asked replied replied_after put put_after made halted halted_after counts is_found is_all (inr stops) sends caused =
     sent_none planned then_of hand rest asked replied replied_after put put_after made halted halted_after counts
@@ -138,24 +137,24 @@ comes_is (found.Bad rule) all response planned then_of hand rest asked replied r
     sent_some planned then_of (refusal_bytes rule true) hand rest asked replied replied_after put put_after made halted halted_after counts
     (subst (λ r. Sends r planned then_of replied replied_after put put_after counts.writes counts.writes_after) responds.0 sends)
     (λ replies gains. subst (λ t. Comes t hand rest asked replied replied_after put put_after made halted halted_after counts) (sym responds.1)
-        (refusal_bytes rule true, inr (rule, is_found.0, is_found.1, responds.2, refl, refl), replies, gains, responds.3))
+    (refusal_bytes rule true, inr (rule, is_found.0, is_found.1, responds.2, refl, refl), replies, gains, responds.3))
     (λ rose. inr (inl (rule, is_found.0, is_found.1, refl, responds.2, rose))) responds.3
 comes_is found.End all response planned then_of hand rest asked replied replied_after put put_after made halted halted_after counts is_found is_all responds sends caused =
     sent_none planned then_of hand rest asked replied replied_after put put_after made halted halted_after counts
     (subst (λ r. Sends r planned then_of replied replied_after put put_after counts.writes counts.writes_after) responds.0 sends)
     (ends_silent (end_at all) planned hand rest asked replied replied_after put put_after made halted halted_after counts responds.1
-        (subst (λ m. ComesToEnd (end_at all) hand rest asked [] m counts) (sym responds.2)
-            (end_comes all hand rest asked counts is_all is_found.1 is_found.0 is_found.2)) responds.3)
+    (subst (λ m. ComesToEnd (end_at all) hand rest asked [] m counts) (sym responds.2)
+    (end_comes all hand rest asked counts is_all is_found.1 is_found.0 is_found.2)) responds.3)
 comes_is found.Fault all response planned then_of hand rest asked replied replied_after put put_after made halted halted_after counts is_found is_all responds sends caused =
     sent_none planned then_of hand rest asked replied replied_after put put_after made halted halted_after counts
     (subst (λ r. Sends r planned then_of replied replied_after put put_after counts.writes counts.writes_after) responds.0 sends)
     (ends_silent end.Fault planned hand rest asked replied replied_after put put_after made halted halted_after counts responds.1
-        (inl (is_found.0, is_found.1, is_found.2, refl, responds.2, caused)) responds.3)
+    (inl (is_found.0, is_found.1, is_found.2, refl, responds.2, caused)) responds.3)
 comes_is found.Limit all response planned then_of hand rest asked replied replied_after put put_after made halted halted_after counts is_found is_all responds sends caused =
     sent_none planned then_of hand rest asked replied replied_after put put_after made halted halted_after counts
     (subst (λ r. Sends r planned then_of replied replied_after put put_after counts.writes counts.writes_after) responds.0 sends)
     (ends_silent end.Limit planned hand rest asked replied replied_after put put_after made halted halted_after counts responds.1
-        (is_found.0, is_found.1, is_found.2, refl, responds.2) responds.3)
+    (is_found.0, is_found.1, is_found.2, refl, responds.2) responds.3)
 
 -- ---- what is said at last
 

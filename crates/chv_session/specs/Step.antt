@@ -14,7 +14,6 @@ use Rattle.chv_session.specs.declared.next.Next.{Next}
 use Rattle.chv_session.specs.declared.next.Next.TheVariants as next
 use Rattle.chv_session.specs.declared.state.State.{State}
 use Rattle.chv_session.specs.declared.state.State.TheVariants as state
-use Rattle.chv_session.specs.Talk.{Talk}
 use Rattle.chv_session.specs.Moment.{Moment, Faults, faults}
 use Rattle.chv_session.specs.Response.{StopsIn, BreaksIn, Leaves}
 

@@ -1,4 +1,4 @@
-use Rattle.std.proofs.Common.{◌≤◌, ◌∙◌, refl, arith}
+use Rattle.std.proofs.Common.{◌∙◌, refl, arith}
 use Rattle.chv_session.proofs.ResultLemmas.{on_err}
 use Rattle.chv_session.proofs.StepLemmas.{turn_is, step_is, halts_is, breaks_taking, breaks_making, breaks_sending, breaks_ending}
 use Rattle.chv_session.proofs.session.step.Goals as goal
