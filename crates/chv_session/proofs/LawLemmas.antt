@@ -1,5 +1,5 @@
 -- Whole sessions: what the turns so far make, and what the last one adds.
-use Rattle.std.proofs.Common.{◌≡◌, ◌||◌, Bool, true, false, ℕ, List, [], ◌∷◌, ◌++◌, take, Option, Some, None, refl, sym, ap, subst, ◌∙◌, inl, inr, append_assoc}
+use Rattle.std.proofs.Common.{◌≡◌, ◌||◌, Bool, true, false, ℕ, List, [], ◌∷◌, ◌++◌, take, Option, Some, None, Result, Ok, Err, refl, sym, ap, subst, ◌∙◌, inl, inr, append_assoc}
 use Rattle.std.proofs.lemmas.List.{append-nil}
 use Rattle.std.proofs.Math.Seq.{take-nil}
 use Rattle.chv_defs.specs.declared.request.Request.{Request}
@@ -9,17 +9,22 @@ use Rattle.chv_defs.specs.declared.session.SessionEnd.TheVariants as end
 use Rattle.chv_defs.specs.Desks.{Answer}
 use Rattle.chv_defs.specs.Outside.{Gains, GainsPart}
 use Rattle.chv_defs.specs.Requests.{BeginsWith}
-use Rattle.chv_defs.specs.SessionBytes.{Answered, AreAnswered, has_last, IsOpen, EndsAs, StopsAs, IsSessionLog}
+use Rattle.std.specs.List.{AllByRecursion}
+use Rattle.chv_defs.specs.declared.rule.Rule.{Rule}
+use Rattle.chv_defs.specs.declared.control.ControlCall.{ControlCall}
+use Rattle.chv_defs.specs.Routes.{call_of_request}
+use Rattle.chv_defs.specs.SessionBytes.{Answered, AnsweredBy, AreAnswered, has_last, IsOpen, EndsAs, StopsAs, IsSessionLog}
 use Rattle.chv_http.proofs.CutLemmas.{cuts_into_append, cuts_into_join}
 use Rattle.chv_session.specs.declared.next.Next.TheVariants as next
 use Rattle.chv_session.specs.declared.state.State.{State}
 use Rattle.chv_session.specs.declared.state.State.TheVariants as state
 use Rattle.chv_session.specs.Talk.{Talk, new_talk}
 use Rattle.chv_session.specs.Moment.{Moment, Faults, faults}
-use Rattle.chv_session.specs.Response.{StopsIn, Leaves}
+use Rattle.chv_session.specs.Response.{StopsIn, Leaves, is_bye}
 use Rattle.chv_session.specs.Step.{Answers, state_behind, ComesFrom, LosesFrom, ComesToEnd, EndsBy, Stops, BreaksAt}
 use Rattle.chv_session.proofs.TakingLemmas.{gains_join}
-use Rattle.chv_session.specs.Laws.{Runs, EndsAsSession, IsSessionWhereLeft, IsSessionWhereLost, PutsPart, PutsAt, PutsItsReplies, PutsItsRepliesWhereLost}
+use Rattle.chv_session.proofs.DeskLemmas.{request_asks_no_bye}
+use Rattle.chv_session.specs.Laws.{AnswersWithoutBye, Runs, EndsAsSession, IsSessionWhereLeft, IsSessionWhereLost, PutsPart, PutsAt, PutsItsReplies, PutsItsRepliesWhereLost}
 
 -- ---- requests so far
 
@@ -459,7 +464,37 @@ lost_puts (state.Leaving how) put last after made stands gains loses =
 lost_puts (state.Ended how) put last after made stands gains loses = absurd stands
 lost_puts state.Lost put last after made stands gains loses = absurd stands
 
+-- ---- no Bye beside an answer
+
+abbrev HaveNoBye : List Answer → Type 0
+HaveNoBye made = AllByRecursion (λ (answer : Answer). is_bye answer.call ≡ false) made
+
+answered_no_bye : (asks : Result ControlCall Rule) (last : Bool) (made : List Answer) (bytes : List ℕ)
+    → ((c : ControlCall) → asks ≡ Ok c → is_bye c ≡ false) → AnsweredBy asks last made bytes → HaveNoBye made
+answered_no_bye (Err rule) last made bytes says by = subst HaveNoBye (sym by.0) tt
+answered_no_bye (Ok c) last made bytes says (answer, (quiet, inl own), is) =
+    subst HaveNoBye (sym own.1) (ap is_bye own.0 ∙ says c refl, tt)
+answered_no_bye (Ok c) last made bytes says (answer, (quiet, inr settled), is) =
+    subst HaveNoBye (sym settled.1) (says c refl, (ap is_bye settled.0, tt))
+
+answers_no_bye : (stands : State) (hand rest reply : List ℕ) (made : List Answer) → Answers stands hand rest reply made → HaveNoBye made
+answers_no_bye stands hand rest reply made (inl (request, begins, answered, is)) =
+    answered_no_bye (call_of_request request) request.last made reply (λ c. request_asks_no_bye request c) answered
+answers_no_bye stands hand rest reply made (inr bad) = subst HaveNoBye (sym bad.3) tt
+
+turn_no_bye : (s : State) (before after : Moment) → ComesFrom s next.Answered before after
+    → (made : List Answer) × (after.answers ≡ before.answers ++ made) × HaveNoBye made
+turn_no_bye state.Open before after goes =
+    let step = goes.0 in
+    (step.made, step.calls, answers_no_bye after.talk.state (before.talk.rest ++ step.more) after.talk.rest step.reply step.made step.outcome.0)
+turn_no_bye (state.Leaving how) before after goes = absurd (cc (goes.1))
+turn_no_bye (state.Ended how) before after goes = absurd (cc (goes.0))
+turn_no_bye state.Lost before after goes = absurd goes
+
 -- ---- the laws
+
+pub answers_without_bye : AnswersWithoutBye
+answers_without_bye before after goes = turn_no_bye before.talk.state before after goes
 
 pub is_session_where_left : IsSessionWhereLeft
 is_session_where_left first last moments is runs =

@@ -1,5 +1,6 @@
 -- Whole sessions: turns that follow one another, and what they come to.
-use Rattle.std.specs.Prelude.{◌≡◌, ◌⊎◌, ℕ, true, List, [], ◌∷◌, ◌++◌, Option}
+use Rattle.std.specs.Prelude.{◌≡◌, ◌⊎◌, ℕ, true, false, List, [], ◌∷◌, ◌++◌, Option}
+use Rattle.std.specs.List.{AllByRecursion}
 use Rattle.chv_defs.specs.declared.rule.Rule.{Rule}
 use Rattle.chv_defs.specs.declared.request.Request.{Request}
 use Rattle.chv_defs.specs.declared.session.SessionEnd.{SessionEnd}
@@ -12,7 +13,15 @@ use Rattle.chv_defs.specs.SessionBytes.{Answered, IsBad, IsOpen, IsSessionLog}
 use Rattle.chv_session.specs.declared.next.Next.TheVariants as next
 use Rattle.chv_session.specs.Talk.{new_talk}
 use Rattle.chv_session.specs.Moment.{Moment}
+use Rattle.chv_session.specs.Response.{is_bye}
 use Rattle.chv_session.specs.Step.{ComesTo, GetsLost}
+
+-- In a turn that answers a request or a refusal, none of the session's calls is its Bye.
+abbrev pub AnswersWithoutBye : Type 0
+AnswersWithoutBye =
+    (before after : Moment) → ComesTo next.Answered before after
+    → (made : List Answer) × (after.answers ≡ before.answers ++ made)
+    × AllByRecursion (λ (answer : Answer). is_bye answer.call ≡ false) made
 
 -- Calls of `next` that follow one another, with what is between them; each of them answered a request or a refusal.
 abbrev pub Runs : Moment → List Moment → Moment → Type 0

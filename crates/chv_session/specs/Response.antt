@@ -73,6 +73,11 @@ Sends (Some bytes) planned after replied replied_after put put_after faults faul
     ((after ≡ planned) × (replied_after ≡ replied ++ bytes) × Gains put put_after bytes)
     ⊎ ((after ≡ then_is.End end.Fault) × (replied_after ≡ replied) × GainsPart put put_after bytes × Rose faults faults_after)
 
+-- whether a call is a Bye
+abbrev pub is_bye : ControlCall → Bool
+is_bye call.Bye = true
+is_bye _ = false
+
 -- The Bye of an end is answered; or the run stopped there, and the end is Stopped, as the desk tells before and after.
 abbrev pub Leaves : SessionEnd → SessionEnd → List Answer → List Answer → Bool → Bool → Type 0
 Leaves how came before after halted halted_after =
