@@ -13,7 +13,7 @@ use Rattle.chv_defs.specs.JsonBodies.{◌>>=◌}
 use Rattle.chv_defs.specs.Routes.{call_of_request, call_named, get_call, put_call, reply_to_call, route_name}
 use Rattle.chv_defs.specs.SessionBytes.{Makes, Holds, AnsweredBy}
 use Rattle.chv_session.specs.declared.respond.Then.{Then}
-use Rattle.chv_session.specs.Response.{HasMadeAlso, Serves, then_after}
+use Rattle.chv_session.specs.Response.{HasMadeAlso, Serves, BreaksIn, is_bye, then_after}
 
 -- ---- what is held
 
@@ -67,9 +67,9 @@ stops_holding before middle after c r holding first second = (
 
 -- ---- the call of a request
 
--- the call, where there is one, is one of a session
+-- the call, where there is one, is one of a session, and not its Bye
 Says : Result ControlCall Rule → Type 0
-Says (Ok c) = is_session_call c ≡ true
+Says (Ok c) = (is_session_call c ≡ true) × (is_bye c ≡ false)
 Says (Err rule) = Unit {0}
 
 record IsAsked (r : Result ControlCall Rule) : Type 0 where
@@ -84,9 +84,9 @@ unfolding Says
 then_asked (Ok a) f each = each a
 then_asked (Err rule) f each = record { says = tt }
 
-asked : (c : ControlCall) → is_session_call c ≡ true → IsAsked (Ok c)
+asked : (c : ControlCall) → is_session_call c ≡ true → is_bye c ≡ false → IsAsked (Ok c)
 unfolding Says
-asked c e = record { says = e }
+asked c e f = record { says = (e, f) }
 
 refused : (rule : Rule) → IsAsked (Err rule)
 unfolding Says
@@ -105,7 +105,11 @@ named_asked request (Some name) = search (if_asked, get_asked, put_asked, refuse
 pub request_asks : (request : Request) (c : ControlCall) (found : Result ControlCall Rule) → found ≡ call_of_request request
     → found ≡ Ok c → is_session_call c ≡ true
 unfolding Says call_of_request
-request_asks request c found is ok = (subst IsAsked (sym is ∙ ok) (named_asked request (route_name request.target))).says
+request_asks request c found is ok = (subst IsAsked (sym is ∙ ok) (named_asked request (route_name request.target))).says.0
+
+pub request_asks_no_bye : (request : Request) (c : ControlCall) → call_of_request request ≡ Ok c → is_bye c ≡ false
+unfolding Says call_of_request
+request_asks_no_bye request c is = (subst IsAsked is (named_asked request (route_name request.target))).says.1
 
 -- ---- a request that is served
 
@@ -127,3 +131,18 @@ serves_ok before after request c found last bytes response after_it halted halte
     goes,
   ),
 )
+
+-- a request whose calls were made, and whose reply was not
+pub breaks_ok : (before after : List Answer) (request : Request) (c : ControlCall) (found : Result ControlCall Rule)
+    (last : ControlCall × ControlReply) → found ≡ call_of_request request → found ≡ Ok c
+    → HasMadeAlso before after (λ made. Makes c made (record { call = last.0; reply = last.1 }))
+    → HasMadeAlso before after (λ made. BreaksIn request made)
+breaks_ok before after request c found last is ok makes =
+    let bytes = reply_to_call last.0 last.1 request.last in (
+      makes.0,
+      makes.1,
+      inr (
+        bytes,
+        subst (λ r. AnsweredBy r request.last makes.0 bytes) (sym ok ∙ is) (record { call = last.0; reply = last.1 }, makes.2, refl),
+      ),
+    )

@@ -1,21 +1,30 @@
--- Whole sessions: what the steps so far make, and what the last one adds.
-use Rattle.std.proofs.Common.{◌≡◌, ◌||◌, Bool, true, false, ℕ, List, [], ◌∷◌, ◌++◌, take, Option, Some, None, refl, sym, ap, subst, ◌∙◌, inl, inr, append_assoc}
+-- Whole sessions: what the turns so far make, and what the last one adds.
+use Rattle.std.proofs.Common.{◌≡◌, ◌||◌, Bool, true, false, ℕ, List, [], ◌∷◌, ◌++◌, take, Option, Some, None, Result, Ok, Err, refl, sym, ap, subst, ◌∙◌, inl, inr, append_assoc}
 use Rattle.std.proofs.lemmas.List.{append-nil}
 use Rattle.std.proofs.Math.Seq.{take-nil}
 use Rattle.chv_defs.specs.declared.request.Request.{Request}
+use Rattle.chv_defs.specs.declared.control.ControlCall.TheVariants as call
 use Rattle.chv_defs.specs.declared.session.SessionEnd.{SessionEnd}
 use Rattle.chv_defs.specs.declared.session.SessionEnd.TheVariants as end
 use Rattle.chv_defs.specs.Desks.{Answer}
-use Rattle.chv_defs.specs.Outside.{Gains}
+use Rattle.chv_defs.specs.Outside.{Gains, GainsPart}
 use Rattle.chv_defs.specs.Requests.{BeginsWith}
-use Rattle.chv_defs.specs.SessionBytes.{Answered, AreAnswered, has_last, IsOpen, EndsAs, IsSessionLog}
+use Rattle.std.specs.List.{AllByRecursion}
+use Rattle.chv_defs.specs.declared.rule.Rule.{Rule}
+use Rattle.chv_defs.specs.declared.control.ControlCall.{ControlCall}
+use Rattle.chv_defs.specs.Routes.{call_of_request}
+use Rattle.chv_defs.specs.SessionBytes.{Answered, AnsweredBy, AreAnswered, has_last, IsOpen, EndsAs, StopsAs, IsSessionLog}
 use Rattle.chv_http.proofs.CutLemmas.{cuts_into_append, cuts_into_join}
-use Rattle.chv_session.specs.declared.next.Next.{Next}
 use Rattle.chv_session.specs.declared.next.Next.TheVariants as next
+use Rattle.chv_session.specs.declared.state.State.{State}
 use Rattle.chv_session.specs.declared.state.State.TheVariants as state
 use Rattle.chv_session.specs.Talk.{Talk, new_talk}
-use Rattle.chv_session.specs.Step.{Step, ComesTo, ComesToEnd, EndsBy, PutsWith, PutsMore, state_after}
-use Rattle.chv_session.specs.Laws.{Moment, Goes, Runs, EndsAsSession, IsSessionWhereLeft, PutsAt, PutsItsReplies}
+use Rattle.chv_session.specs.Moment.{Moment, Faults, faults}
+use Rattle.chv_session.specs.Response.{StopsIn, Leaves, is_bye}
+use Rattle.chv_session.specs.Step.{Answers, state_behind, ComesFrom, LosesFrom, ComesToEnd, EndsBy, Stops, BreaksAt}
+use Rattle.chv_session.proofs.TakingLemmas.{gains_join}
+use Rattle.chv_session.proofs.DeskLemmas.{request_asks_no_bye}
+use Rattle.chv_session.specs.Laws.{AnswersWithoutBye, Runs, EndsAsSession, IsSessionWhereLeft, IsSessionWhereLost, PutsPart, PutsAt, PutsItsReplies, PutsItsRepliesWhereLost}
 
 -- ---- requests so far
 
@@ -96,166 +105,158 @@ open_same asked replied replied_too rest rest_too made made_too so_far a b c =
 no_more : {A : Type 0} (xs more : List A) → more ≡ [] → xs ++ more ≡ xs
 no_more xs more none = ap (λ l. xs ++ l) none ∙ append-nil xs
 
-ends_as : (how : SessionEnd) (asked replied hand reply unsent : List ℕ) (made calls : List Answer) → IsOpen asked replied made hand
-    → ComesToEnd how hand asked reply unsent calls → EndsAs how asked (replied ++ reply) (made ++ calls)
-ends_as end.Ended asked replied hand reply unsent made calls so_far comes = (
-  comes.1,
-  open_same asked replied (replied ++ reply) hand [] made (made ++ calls) so_far (no_more replied reply comes.2)
-      (no_more made calls comes.4) (sym comes.0),
+-- an end, whose Bye is left aside
+ends_as : (how : SessionEnd) (asked replied hand rest unsent : List ℕ) (made calls : List Answer) (counts : Faults) → IsOpen asked replied made hand
+    → ComesToEnd how hand rest asked unsent calls counts → EndsAs how asked replied (made ++ calls)
+ends_as end.Ended asked replied hand rest unsent made calls counts so_far comes =
+    (comes.2, open_same asked replied replied hand [] made (made ++ calls) so_far refl (no_more made calls comes.4) (sym comes.0))
+ends_as end.Cut asked replied hand rest unsent made calls counts so_far comes = (
+  comes.3,
+  (hand, open_same asked replied replied hand hand made (made ++ calls) so_far refl (no_more made calls comes.5) refl, comes.0, comes.1),
 )
-ends_as end.Cut asked replied hand reply unsent made calls so_far comes = (
+ends_as end.Fault asked replied hand rest unsent made calls counts so_far (inl read) =
+    (made, hand, so_far, inl (no_more made calls read.4, read.0, read.2))
+ends_as end.Fault asked replied hand rest unsent made calls counts so_far (inr (inl bad)) =
+    (made, hand, so_far, inr (inl (no_more made calls bad.4, (bad.0, bad.1))))
+ends_as end.Fault asked replied hand rest unsent made calls counts so_far (inr (inr write)) =
+    (made, hand, so_far, inr (inr (write.0, rest, calls, unsent, write.1, write.2, refl)))
+ends_as end.Limit asked replied hand rest unsent made calls counts so_far comes = (
   comes.2,
-  (
-    hand,
-    open_same asked replied (replied ++ reply) hand hand made (made ++ calls) so_far (no_more replied reply comes.3)
-        (no_more made calls comes.5) refl,
-    comes.0,
-    comes.1,
-  ),
+  (hand, open_same asked replied replied hand hand made (made ++ calls) so_far refl (no_more made calls comes.4) refl, comes.0),
 )
-ends_as end.Bad asked replied hand reply unsent made calls so_far comes = (
-  replied,
-  hand,
-  comes.0,
-  open_same asked replied replied hand hand made (made ++ calls) so_far refl (no_more made calls comes.4) refl,
-  comes.1,
-  ap (λ l. replied ++ l) comes.2,
-)
-ends_as end.Closed asked replied hand reply unsent made calls so_far comes =
-    (replied, made, hand, comes.0, comes.1, calls, reply, so_far, comes.2, comes.3, comes.4, refl, refl)
-ends_as end.Fault asked replied hand reply unsent made calls so_far (none, inl read) = (
-  made,
-  hand,
-  open_same asked replied (replied ++ reply) hand hand made made so_far (no_more replied reply none) refl refl,
-  inl (no_more made calls read.3, read.0, read.1),
-)
-ends_as end.Fault asked replied hand reply unsent made calls so_far (none, inr (inl bad)) = (
-  made,
-  hand,
-  open_same asked replied (replied ++ reply) hand hand made made so_far (no_more replied reply none) refl refl,
-  inr (inl (no_more made calls bad.3, (bad.0, bad.1))),
-)
-ends_as end.Fault asked replied hand reply unsent made calls so_far (none, inr (inr write)) = (
-  made,
-  hand,
-  open_same asked replied (replied ++ reply) hand hand made made so_far (no_more replied reply none) refl refl,
-  inr (inr (write.0, write.1, calls, unsent, write.2, write.3, refl)),
-)
-ends_as end.Limit asked replied hand reply unsent made calls so_far comes = (
-  comes.1,
-  (
-    hand,
-    open_same asked replied (replied ++ reply) hand hand made (made ++ calls) so_far (no_more replied reply comes.2)
-        (no_more made calls comes.4) refl,
-    comes.0,
-  ),
-)
-ends_as end.Stopped asked replied hand reply unsent made calls so_far comes = absurd comes
+ends_as end.Bad asked replied hand rest unsent made calls counts so_far comes = absurd comes
+ends_as end.Closed asked replied hand rest unsent made calls counts so_far comes = absurd comes
+ends_as end.Stopped asked replied hand rest unsent made calls counts so_far comes = absurd comes
 
 -- with the Bye behind it
 with_bye : (made calls all : List Answer) (bye : Answer) → all ≡ calls ++ bye ∷ [] → made ++ all ≡ (made ++ calls) ++ bye ∷ []
 with_bye made calls all bye is = ap (λ l. made ++ l) is ∙ sym (append_assoc made calls (bye ∷ []))
 
-log_is : (how : SessionEnd) (asked replied hand reply unsent : List ℕ) (made more : List Answer) → IsOpen asked replied made hand
-    → EndsBy how hand asked reply unsent more → IsSessionLog how asked (replied ++ reply) (made ++ more)
-log_is end.Ended asked replied hand reply unsent made more so_far ends =
-    (made ++ ends.0, ends.1, ends_as end.Ended asked replied hand reply unsent made ends.0 so_far ends.2, ends.3, with_bye made ends.0 more ends.1 ends.4)
-log_is end.Cut asked replied hand reply unsent made more so_far ends =
-    (made ++ ends.0, ends.1, ends_as end.Cut asked replied hand reply unsent made ends.0 so_far ends.2, ends.3, with_bye made ends.0 more ends.1 ends.4)
-log_is end.Bad asked replied hand reply unsent made more so_far ends =
-    (made ++ ends.0, ends.1, ends_as end.Bad asked replied hand reply unsent made ends.0 so_far ends.2, ends.3, with_bye made ends.0 more ends.1 ends.4)
-log_is end.Closed asked replied hand reply unsent made more so_far ends =
-    (made ++ ends.0, ends.1, ends_as end.Closed asked replied hand reply unsent made ends.0 so_far ends.2, ends.3, with_bye made ends.0 more ends.1 ends.4)
-log_is end.Fault asked replied hand reply unsent made more so_far ends =
-    (made ++ ends.0, ends.1, ends_as end.Fault asked replied hand reply unsent made ends.0 so_far ends.2, ends.3, with_bye made ends.0 more ends.1 ends.4)
-log_is end.Limit asked replied hand reply unsent made more so_far ends =
-    (made ++ ends.0, ends.1, ends_as end.Limit asked replied hand reply unsent made ends.0 so_far ends.2, ends.3, with_bye made ends.0 more ends.1 ends.4)
-log_is end.Stopped asked replied hand reply unsent made more so_far (inl (request, behind, begins, inl none, no_reply, no_unsent)) =
-    inl (hand, open_same asked replied (replied ++ reply) hand hand made (made ++ more) so_far (no_more replied reply no_reply) (no_more made more none) refl)
-log_is end.Stopped asked replied hand reply unsent made more so_far (inl (request, behind, begins, inr held, no_reply, no_unsent)) =
-    inr (inl (
-      made,
-      hand,
-      request,
-      behind,
-      held.0,
-      more,
-      open_same asked replied (replied ++ reply) hand hand made made so_far (no_more replied reply no_reply) refl refl,
-      begins,
-      held.1,
-      held.2,
-      refl,
-    ))
-log_is end.Stopped asked replied hand reply unsent made more so_far (inr at_bye) =
-    inr (inr (at_bye.0, ends_as at_bye.0 asked replied hand reply unsent made more so_far at_bye.1))
+log_with_bye : (how : SessionEnd) (asked replied : List ℕ) (made all : List Answer) (bye : Answer) → EndsAs how asked replied made
+    → bye.call ≡ call.Bye → all ≡ made ++ bye ∷ [] → IsSessionLog how asked replied all
+log_with_bye end.Ended asked replied made all bye ends says is = (made, bye, ends, says, is)
+log_with_bye end.Cut asked replied made all bye ends says is = (made, bye, ends, says, is)
+log_with_bye end.Bad asked replied made all bye ends says is = (made, bye, ends, says, is)
+log_with_bye end.Closed asked replied made all bye ends says is = (made, bye, ends, says, is)
+log_with_bye end.Fault asked replied made all bye ends says is = (made, bye, ends, says, is)
+log_with_bye end.Limit asked replied made all bye ends says is = (made, bye, ends, says, is)
+log_with_bye end.Stopped asked replied made all bye ends says is = absurd ends
 
--- ---- the steps so far
+-- stopped in a request, or at the Bye
+stops_in : (asked replied hand behind : List ℕ) (made more : List Answer) (request : Request) → IsOpen asked replied made hand
+    → BeginsWith hand request behind → StopsIn request more → StopsAs asked replied (made ++ more)
+stops_in asked replied hand behind made more request so_far begins (inl none) =
+    inl (hand, open_same asked replied replied hand hand made (made ++ more) so_far refl (no_more made more none) refl)
+stops_in asked replied hand behind made more request so_far begins (inr held) =
+    inr (inl (made, hand, request, behind, held.0, more, so_far, begins, held.1, held.2, refl))
 
--- what the steps from a new session on make
+log_stops : (asked replied hand rest unsent : List ℕ) (made more : List Answer) (counts : Faults) → IsOpen asked replied made hand
+    → Stops hand rest asked unsent more counts → StopsAs asked replied (made ++ more)
+log_stops asked replied hand rest unsent made more counts so_far (inl within) =
+    stops_in asked replied hand rest made more within.0 so_far within.1 within.2
+log_stops asked replied hand rest unsent made more counts so_far (inr at_bye) =
+    inr (inr (at_bye.0, ends_as at_bye.0 asked replied hand rest unsent made more counts so_far at_bye.1))
+
+log_is : (how : SessionEnd) (asked replied hand rest unsent : List ℕ) (made more : List Answer) (counts : Faults) → IsOpen asked replied made hand
+    → EndsBy how hand rest asked unsent more counts → IsSessionLog how asked replied (made ++ more)
+log_is end.Stopped asked replied hand rest unsent made more counts so_far ends =
+    log_stops asked replied hand rest unsent made more counts so_far ends
+log_is end.Ended asked replied hand rest unsent made more counts so_far ends =
+    log_with_bye end.Ended asked replied (made ++ ends.0) (made ++ more) ends.1
+    (ends_as end.Ended asked replied hand rest unsent made ends.0 counts so_far ends.2) ends.3 (with_bye made ends.0 more ends.1 ends.4)
+log_is end.Cut asked replied hand rest unsent made more counts so_far ends =
+    log_with_bye end.Cut asked replied (made ++ ends.0) (made ++ more) ends.1
+    (ends_as end.Cut asked replied hand rest unsent made ends.0 counts so_far ends.2) ends.3 (with_bye made ends.0 more ends.1 ends.4)
+log_is end.Bad asked replied hand rest unsent made more counts so_far ends =
+    log_with_bye end.Bad asked replied (made ++ ends.0) (made ++ more) ends.1
+    (ends_as end.Bad asked replied hand rest unsent made ends.0 counts so_far ends.2) ends.3 (with_bye made ends.0 more ends.1 ends.4)
+log_is end.Closed asked replied hand rest unsent made more counts so_far ends =
+    log_with_bye end.Closed asked replied (made ++ ends.0) (made ++ more) ends.1
+    (ends_as end.Closed asked replied hand rest unsent made ends.0 counts so_far ends.2) ends.3 (with_bye made ends.0 more ends.1 ends.4)
+log_is end.Fault asked replied hand rest unsent made more counts so_far ends =
+    log_with_bye end.Fault asked replied (made ++ ends.0) (made ++ more) ends.1
+    (ends_as end.Fault asked replied hand rest unsent made ends.0 counts so_far ends.2) ends.3 (with_bye made ends.0 more ends.1 ends.4)
+log_is end.Limit asked replied hand rest unsent made more counts so_far ends =
+    log_with_bye end.Limit asked replied (made ++ ends.0) (made ++ more) ends.1
+    (ends_as end.Limit asked replied hand rest unsent made ends.0 counts so_far ends.2) ends.3 (with_bye made ends.0 more ends.1 ends.4)
+
+-- want of memory
+log_breaks : (asked replied hand unsent : List ℕ) (made more : List Answer) (counts : Faults) → IsOpen asked replied made hand
+    → BreaksAt hand asked unsent more counts → StopsAs asked replied (made ++ more)
+log_breaks asked replied hand unsent made more counts so_far (inl none) =
+    inl (hand, open_same asked replied replied hand hand made (made ++ more) so_far refl (no_more made more none.0) refl)
+log_breaks asked replied hand unsent made more counts so_far (inr (inl (request, behind, begins, inl stops, nothing))) =
+    stops_in asked replied hand behind made more request so_far begins stops
+log_breaks asked replied hand unsent made more counts so_far (inr (inl (request, behind, begins, inr replies, nothing))) =
+    inr (inr (end.Fault, (made, hand, so_far, inr (inr (request, behind, more, replies.0, begins, replies.1, refl)))))
+log_breaks asked replied hand unsent made more counts so_far (inr (inr at_bye)) =
+    inr (inr (at_bye.0, ends_as at_bye.0 asked replied hand at_bye.1 unsent made more counts so_far at_bye.2))
+
+-- ---- the turns so far
+
+-- where a session stands, with what it asked, replied and made: it is open; or it leaves, and ends so
+abbrev StandsAs : State → List ℕ → List ℕ → List Answer → List ℕ → Type 0
+StandsAs state.Open asked replied made rest = IsOpen asked replied made rest
+StandsAs (state.Leaving how) asked replied made rest = EndsAs how asked replied made
+StandsAs (state.Ended how) asked replied made rest = ⊥
+StandsAs state.Lost asked replied made rest = ⊥
+
+-- what the turns from a new session on make
 pub record SoFar (answers : List Answer) (put : Option (List ℕ)) (last : Moment) : Type 0 where
-  pub state_is : last.talk.state ≡ state.Open
   pub made : List Answer
   pub calls : last.answers ≡ answers ++ made
-  pub is_open : IsOpen last.talk.asked last.talk.replied made last.talk.rest
+  pub stands : StandsAs last.talk.state last.talk.asked last.talk.replied made last.talk.rest
   pub puts : Gains put last.put last.talk.replied
 
--- a step from an open session
-step_of : (what : Next) (before after : Moment) → before.talk.state ≡ state.Open → Goes what before after
-    → (after.talk.state ≡ state_after what)
-    × Step what before.talk.asked after.talk.asked before.talk.rest after.talk.rest before.talk.replied after.talk.replied before.answers
-    after.answers before.put after.put
-step_of what before after is goes =
-    subst (λ s. ComesTo s what before.talk after.talk before.answers after.answers before.put after.put) is goes
+stands_behind : (request : Request) (last : Bool) (asked replied hand rest reply : List ℕ) (made more : List Answer) → request.last ≡ last
+    → IsOpen asked replied made hand → BeginsWith hand request rest → Answered request more reply
+    → StandsAs (state_behind last) asked (replied ++ reply) (made ++ more) rest
+stands_behind request true asked replied hand rest reply made more is so_far begins answered =
+    (replied, made, hand, request, rest, more, reply, so_far, begins, is, answered, refl, refl)
+stands_behind request false asked replied hand rest reply made more is so_far begins answered =
+    open_answers asked replied hand rest reply made more request so_far begins is answered
 
--- what was put
-none_puts : (b c : Option (List ℕ)) (reply unsent : List ℕ) → b ≡ None → PutsWith b c reply unsent → c ≡ None
-none_puts None c reply unsent same puts = puts
-none_puts (Some b) c reply unsent same puts = absurd (cc same)
+stands_after : (stands : State) (asked replied hand rest reply : List ℕ) (made more : List Answer) → IsOpen asked replied made hand
+    → Answers stands hand rest reply more → StandsAs stands asked (replied ++ reply) (made ++ more) rest
+stands_after stands asked replied hand rest reply made more so_far (inl (request, begins, answered, is)) =
+    subst (λ s. StandsAs s asked (replied ++ reply) (made ++ more) rest) (sym is)
+    (stands_behind request request.last asked replied hand rest reply made more refl so_far begins answered)
+stands_after stands asked replied hand rest reply made more so_far (inr (rule, bad, rest_is, none, reply_is, is)) =
+    subst (λ s. StandsAs s asked (replied ++ reply) (made ++ more) rest) (sym is) (
+      replied,
+      hand,
+      rule,
+      open_same asked replied replied hand hand made (made ++ more) so_far refl (no_more made more none) refl,
+      bad,
+      ap (λ l. replied ++ l) reply_is,
+    )
 
-puts_on : (a b c : Option (List ℕ)) (replied reply unsent : List ℕ) → Gains a b replied → PutsWith b c reply unsent
-    → PutsMore a c (replied ++ reply)
-puts_on None b c replied reply unsent gains puts = ([], none_puts b c reply unsent gains puts)
-puts_on (Some a) None c replied reply unsent gains puts = absurd gains
-puts_on (Some a) (Some b) None replied reply unsent gains puts = absurd puts
-puts_on (Some a) (Some b) (Some c) replied reply unsent gains puts = (
-  take puts.0 unsent,
-  puts.2 ∙ ap (λ l. l ++ (reply ++ take puts.0 unsent)) gains ∙ append_assoc a replied (reply ++ take puts.0 unsent)
-      ∙ ap (λ l. a ++ l) (sym (append_assoc replied reply (take puts.0 unsent))),
-)
-
-puts_whole : (a b c : Option (List ℕ)) (replied reply unsent : List ℕ) → Gains a b replied → PutsWith b c reply unsent → unsent ≡ []
-    → Gains a c (replied ++ reply)
-puts_whole None b c replied reply unsent gains puts none = none_puts b c reply unsent gains puts
-puts_whole (Some a) None c replied reply unsent gains puts none = absurd gains
-puts_whole (Some a) (Some b) None replied reply unsent gains puts none = absurd puts
-puts_whole (Some a) (Some b) (Some c) replied reply unsent gains puts none =
-    puts.2 ∙ ap (λ l. b ++ l) (ap (λ u. reply ++ u) (ap (take puts.0) none ∙ take-nil puts.0) ∙ append-nil reply)
-    ∙ ap (λ l. l ++ reply) gains ∙ append_assoc a replied reply
-
-step_answers : (answers : List Answer) (put : Option (List ℕ)) (before after : Moment) → SoFar answers put before
-    → Goes next.Answered before after → SoFar answers put after
-step_answers answers put before after so_far goes =
-    let both = step_of next.Answered before after so_far.state_is goes in
-    let step = both.1 in
-    let done = step.outcome in
-    let taken = open_takes before.talk.asked before.talk.replied before.talk.rest step.more so_far.made so_far.is_open in
-    let answered = open_answers (before.talk.asked ++ step.more) before.talk.replied (before.talk.rest ++ step.more) after.talk.rest step.reply
-    so_far.made step.made done.0 taken done.1 done.2 done.3 in
+turn_answers : (s : State) (answers : List Answer) (put : Option (List ℕ)) (before after : Moment) (made : List Answer)
+    → StandsAs s before.talk.asked before.talk.replied made before.talk.rest → before.answers ≡ answers ++ made
+    → Gains put before.put before.talk.replied → ComesFrom s next.Answered before after → SoFar answers put after
+turn_answers state.Open answers put before after made stands calls puts goes =
+    let step = goes.0 in
+    let taken = open_takes before.talk.asked before.talk.replied before.talk.rest step.more made stands in
+    let now = stands_after after.talk.state (before.talk.asked ++ step.more) before.talk.replied (before.talk.rest ++ step.more) after.talk.rest
+    step.reply made step.made taken step.outcome.0 in
     record {
-      state_is = both.0;
-      made = so_far.made ++ step.made;
-      calls = step.calls ∙ ap (λ l. l ++ step.made) so_far.calls ∙ append_assoc answers so_far.made step.made;
-      is_open = subst (λ a. IsOpen a after.talk.replied (so_far.made ++ step.made) after.talk.rest) (sym step.takes)
-          (subst (λ r. IsOpen (before.talk.asked ++ step.more) r (so_far.made ++ step.made) after.talk.rest) (sym step.replies) answered);
+      made = made ++ step.made;
+      calls = step.calls ∙ ap (λ l. l ++ step.made) calls ∙ append_assoc answers made step.made;
+      stands = subst (λ a. StandsAs after.talk.state a after.talk.replied (made ++ step.made) after.talk.rest) (sym step.takes)
+          (subst (λ r. StandsAs after.talk.state (before.talk.asked ++ step.more) r (made ++ step.made) after.talk.rest) (sym step.replies) now);
       puts = subst (λ r. Gains put after.put r) (sym step.replies)
-          (puts_whole put before.put after.put before.talk.replied step.reply step.unsent so_far.puts step.puts done.4);
+          (gains_join put before.put after.put before.talk.replied step.reply puts step.outcome.1);
     }
+turn_answers (state.Leaving how) answers put before after made stands calls puts goes = absurd (cc (goes.1))
+turn_answers (state.Ended how) answers put before after made stands calls puts goes = absurd stands
+turn_answers state.Lost answers put before after made stands calls puts goes = absurd stands
 
 runs_answer : (answers : List Answer) (put : Option (List ℕ)) (first : Moment) (moments : List Moment) (last : Moment)
     → SoFar answers put first → Runs first moments last → SoFar answers put last
 runs_answer answers put first [] last so_far runs = subst (λ m. SoFar answers put m) runs so_far
 runs_answer answers put first (moment ∷ moments) last so_far runs =
-    runs_answer answers put moment moments last (step_answers answers put first moment so_far runs.0) runs.1
+    runs_answer answers put moment moments last
+    (turn_answers first.talk.state answers put first moment so_far.made so_far.stands so_far.calls so_far.puts runs.0) runs.1
 
 gains_none : (put : Option (List ℕ)) → Gains put put []
 gains_none None = refl
@@ -263,48 +264,259 @@ gains_none (Some bytes) = sym (append-nil bytes)
 
 starts : (first : Moment) → first.talk ≡ new_talk → SoFar first.answers first.put first
 starts first is = record {
-  state_is = ap (λ (t : Talk). t.state) is;
   made = [];
   calls = sym (append-nil first.answers);
-  is_open = subst (λ (t : Talk). IsOpen t.asked t.replied [] t.rest) (sym is) open_start;
+  stands = subst (λ (t : Talk). StandsAs t.state t.asked t.replied [] t.rest) (sym is) open_start;
   puts = subst (λ (t : Talk). Gains first.put first.put t.replied) (sym is) (gains_none first.put);
 }
 
+runs_from_start : (first last : Moment) (moments : List Moment) → first.talk ≡ new_talk → Runs first moments last
+    → SoFar first.answers first.put last
+runs_from_start first last moments is runs = runs_answer first.answers first.put first moments last (starts first is) runs
+
+-- ---- the calls
+
+-- what a session leaves that ends so
+abbrev Logs : SessionEnd → List Answer → Moment → Type 0
+Logs how answers after =
+    (made : List Answer) × (after.answers ≡ answers ++ made) × IsSessionLog how after.talk.asked after.talk.replied made
+
+left_log : (s : State) (asked replied rest : List ℕ) (made : List Answer) → StandsAs s asked replied made rest
+    → StopsAs asked replied made
+left_log state.Open asked replied rest made stands = inl (rest, stands)
+left_log (state.Leaving how) asked replied rest made stands = inr (inr (how, stands))
+left_log (state.Ended how) asked replied rest made stands = absurd stands
+left_log state.Lost asked replied rest made stands = absurd stands
+
+-- the Bye of a session that leaves
+bye_log : (how came said : SessionEnd) (answers : List Answer) (last after : Moment) (made : List Answer)
+    → EndsAs how last.talk.asked last.talk.replied made → last.answers ≡ answers ++ made → said ≡ came
+    → after.talk ≡ record last.talk { state = state.Ended came } → Leaves how came last.answers after.answers last.halted after.halted
+    → Logs said answers after
+bye_log how came said answers last after made stands calls says talk (inl byes) = (
+  made ++ byes.0 ∷ [],
+  byes.3 ∙ ap (λ l. l ++ byes.0 ∷ []) calls ∙ append_assoc answers made (byes.0 ∷ []),
+  subst (λ (e : SessionEnd). IsSessionLog e after.talk.asked after.talk.replied (made ++ byes.0 ∷ [])) (sym (says ∙ byes.1))
+      (subst (λ (t : Talk). IsSessionLog how t.asked t.replied (made ++ byes.0 ∷ [])) (sym talk)
+      (log_with_bye how last.talk.asked last.talk.replied made (made ++ byes.0 ∷ []) byes.0 stands byes.2 refl)),
+)
+bye_log how came said answers last after made stands calls says talk (inr stops) = (
+  made,
+  stops.1 ∙ calls,
+  subst (λ (e : SessionEnd). IsSessionLog e after.talk.asked after.talk.replied made) (sym (says ∙ stops.0))
+      (subst (λ (t : Talk). StopsAs t.asked t.replied made) (sym talk) (inr (inr (how, stands)))),
+)
+
+end_log : (s : State) (how : SessionEnd) (answers : List Answer) (last after : Moment) (made : List Answer)
+    → StandsAs s last.talk.asked last.talk.replied made last.talk.rest → last.answers ≡ answers ++ made
+    → ComesFrom s (next.Ended how) last after → Logs how answers after
+end_log state.Open how answers last after made stands calls goes =
+    let step = goes.0 in
+    let ends = step.outcome in
+    let counts = faults last.reads after.reads last.writes after.writes in
+    let taken = open_takes last.talk.asked last.talk.replied last.talk.rest step.more made stands in
+    let log = log_is how (last.talk.asked ++ step.more) last.talk.replied (last.talk.rest ++ step.more) after.talk.rest ends.0 made step.made
+    counts taken (subst (λ a. EndsBy how (last.talk.rest ++ step.more) after.talk.rest a ends.0 step.made counts) step.takes ends.3) in (
+      made ++ step.made,
+      step.calls ∙ ap (λ l. l ++ step.made) calls ∙ append_assoc answers made step.made,
+      subst (λ a. IsSessionLog how a after.talk.replied (made ++ step.made)) (sym step.takes)
+          (subst (λ r. IsSessionLog how (last.talk.asked ++ step.more) r (made ++ step.made))
+          (sym (step.replies ∙ no_more last.talk.replied step.reply ends.2)) log),
+    )
+end_log (state.Leaving how_then) how answers last after made stands calls goes =
+    let says : how ≡ goes.0 = cc (goes.1) in
+    bye_log how_then goes.0 how answers last after made stands calls says goes.2 goes.3
+end_log (state.Ended how_then) how answers last after made stands calls goes = absurd stands
+end_log state.Lost how answers last after made stands calls goes = absurd stands
+
+lost_log : (s : State) (answers : List Answer) (last after : Moment) (made : List Answer)
+    → StandsAs s last.talk.asked last.talk.replied made last.talk.rest → last.answers ≡ answers ++ made
+    → LosesFrom s last after → Logs end.Stopped answers after
+lost_log state.Open answers last after made stands calls loses =
+    let breaks = loses.1 in
+    let counts = faults last.reads after.reads last.writes after.writes in
+    let taken = open_takes last.talk.asked last.talk.replied last.talk.rest breaks.more made stands in
+    let log = log_breaks (last.talk.asked ++ breaks.more) last.talk.replied (last.talk.rest ++ breaks.more) breaks.unsent made breaks.made
+    counts taken (subst (λ a. BreaksAt (last.talk.rest ++ breaks.more) a breaks.unsent breaks.made counts) breaks.takes breaks.place) in (
+      made ++ breaks.made,
+      breaks.calls ∙ ap (λ l. l ++ breaks.made) calls ∙ append_assoc answers made breaks.made,
+      subst (λ a. StopsAs a after.talk.replied (made ++ breaks.made)) (sym breaks.takes)
+          (subst (λ r. StopsAs (last.talk.asked ++ breaks.more) r (made ++ breaks.made)) (sym breaks.replies) log),
+    )
+lost_log (state.Leaving how) answers last after made stands calls loses = (
+  made,
+  loses.1 ∙ calls,
+  subst (λ (t : Talk). StopsAs t.asked t.replied made) (sym loses.0) (inr (inr (how, stands))),
+)
+lost_log (state.Ended how) answers last after made stands calls loses = absurd stands
+lost_log state.Lost answers last after made stands calls loses = absurd stands
+
+-- ---- what was put
+
+none_puts : (b c : Option (List ℕ)) (unsent : List ℕ) → b ≡ None → GainsPart b c unsent → c ≡ None
+none_puts None c unsent same part = part
+none_puts (Some b) c unsent same part = absurd (cc same)
+
+-- nothing was put behind the replies
+puts_none : (a b c : Option (List ℕ)) (replied unsent : List ℕ) → Gains a b replied → GainsPart b c unsent → unsent ≡ [] → Gains a c replied
+puts_none None b c replied unsent gains part none = none_puts b c unsent gains part
+puts_none (Some a) None c replied unsent gains part none = absurd gains
+puts_none (Some a) (Some b) None replied unsent gains part none = absurd part
+puts_none (Some a) (Some b) (Some c) replied unsent gains part none =
+    part.2 ∙ ap (λ l. b ++ l) (ap (take part.0) none ∙ take-nil part.0) ∙ append-nil b ∙ gains
+
+-- all of the replies
+puts_whole : (how : SessionEnd) (before after : Option (List ℕ)) (asked replied : List ℕ) → Gains before after replied
+    → PutsAt how before after asked replied
+puts_whole end.Ended before after asked replied gains = gains
+puts_whole end.Cut before after asked replied gains = gains
+puts_whole end.Bad before after asked replied gains = gains
+puts_whole end.Closed before after asked replied gains = gains
+puts_whole end.Fault before after asked replied gains = inl gains
+puts_whole end.Limit before after asked replied gains = gains
+puts_whole end.Stopped before after asked replied gains = inl gains
+
+comes_puts : (how : SessionEnd) (hand rest asked unsent : List ℕ) (calls made : List Answer) (counts : Faults) (a b c : Option (List ℕ)) (replied : List ℕ)
+    → ComesToEnd how hand rest asked unsent calls counts → IsOpen asked replied made hand → Gains a b replied → GainsPart b c unsent
+    → PutsPart a c asked replied
+comes_puts end.Ended hand rest asked unsent calls made counts a b c replied comes so_far gains part =
+    inl (puts_none a b c replied unsent gains part comes.3)
+comes_puts end.Cut hand rest asked unsent calls made counts a b c replied comes so_far gains part =
+    inl (puts_none a b c replied unsent gains part comes.4)
+comes_puts end.Limit hand rest asked unsent calls made counts a b c replied comes so_far gains part =
+    inl (puts_none a b c replied unsent gains part comes.3)
+comes_puts end.Fault hand rest asked unsent calls made counts a b c replied (inl read) so_far gains part =
+    inl (puts_none a b c replied unsent gains part read.3)
+comes_puts end.Fault hand rest asked unsent calls made counts a b c replied (inr (inl bad)) so_far gains part =
+    inr (made, hand, unsent, b, so_far, inr (bad.0, bad.1, bad.3), gains, part)
+comes_puts end.Fault hand rest asked unsent calls made counts a b c replied (inr (inr write)) so_far gains part =
+    inr (made, hand, unsent, b, so_far, inl (write.0, rest, calls, write.1, write.2), gains, part)
+comes_puts end.Bad hand rest asked unsent calls made counts a b c replied comes so_far gains part = absurd comes
+comes_puts end.Closed hand rest asked unsent calls made counts a b c replied comes so_far gains part = absurd comes
+comes_puts end.Stopped hand rest asked unsent calls made counts a b c replied comes so_far gains part = absurd comes
+
+stops_puts : (hand rest asked unsent : List ℕ) (more made : List Answer) (counts : Faults) (a b c : Option (List ℕ)) (replied : List ℕ)
+    → Stops hand rest asked unsent more counts → IsOpen asked replied made hand → Gains a b replied → GainsPart b c unsent
+    → PutsPart a c asked replied
+stops_puts hand rest asked unsent more made counts a b c replied (inl within) so_far gains part =
+    inl (puts_none a b c replied unsent gains part within.3)
+stops_puts hand rest asked unsent more made counts a b c replied (inr at_bye) so_far gains part =
+    comes_puts at_bye.0 hand rest asked unsent more made counts a b c replied at_bye.1 so_far gains part
+
+ends_puts : (how : SessionEnd) (hand rest asked unsent : List ℕ) (more made : List Answer) (counts : Faults) (a b c : Option (List ℕ)) (replied : List ℕ)
+    → EndsBy how hand rest asked unsent more counts → IsOpen asked replied made hand → Gains a b replied → GainsPart b c unsent
+    → PutsAt how a c asked replied
+ends_puts end.Ended hand rest asked unsent more made counts a b c replied ends so_far gains part =
+    puts_none a b c replied unsent gains part ends.2.3
+ends_puts end.Cut hand rest asked unsent more made counts a b c replied ends so_far gains part =
+    puts_none a b c replied unsent gains part ends.2.4
+ends_puts end.Limit hand rest asked unsent more made counts a b c replied ends so_far gains part =
+    puts_none a b c replied unsent gains part ends.2.3
+ends_puts end.Fault hand rest asked unsent more made counts a b c replied ends so_far gains part =
+    comes_puts end.Fault hand rest asked unsent ends.0 made counts a b c replied ends.2 so_far gains part
+ends_puts end.Bad hand rest asked unsent more made counts a b c replied ends so_far gains part = absurd ends.2
+ends_puts end.Closed hand rest asked unsent more made counts a b c replied ends so_far gains part = absurd ends.2
+ends_puts end.Stopped hand rest asked unsent more made counts a b c replied ends so_far gains part =
+    stops_puts hand rest asked unsent more made counts a b c replied ends so_far gains part
+
+breaks_puts : (hand asked unsent : List ℕ) (more made : List Answer) (counts : Faults) (a b c : Option (List ℕ)) (replied : List ℕ)
+    → BreaksAt hand asked unsent more counts → IsOpen asked replied made hand → Gains a b replied → GainsPart b c unsent
+    → PutsPart a c asked replied
+breaks_puts hand asked unsent more made counts a b c replied (inl none) so_far gains part =
+    inl (puts_none a b c replied unsent gains part none.1)
+breaks_puts hand asked unsent more made counts a b c replied (inr (inl within)) so_far gains part =
+    inl (puts_none a b c replied unsent gains part within.4)
+breaks_puts hand asked unsent more made counts a b c replied (inr (inr at_bye)) so_far gains part =
+    comes_puts at_bye.0 hand at_bye.1 asked unsent more made counts a b c replied at_bye.2 so_far gains part
+
+end_puts : (s : State) (how : SessionEnd) (put : Option (List ℕ)) (last after : Moment) (made : List Answer)
+    → StandsAs s last.talk.asked last.talk.replied made last.talk.rest → Gains put last.put last.talk.replied
+    → ComesFrom s (next.Ended how) last after → PutsAt how put after.put after.talk.asked after.talk.replied
+end_puts state.Open how put last after made stands gains goes =
+    let step = goes.0 in
+    let ends = step.outcome in
+    let counts = faults last.reads after.reads last.writes after.writes in
+    let taken = open_takes last.talk.asked last.talk.replied last.talk.rest step.more made stands in
+    let at_asked = subst (λ a. IsOpen a last.talk.replied made (last.talk.rest ++ step.more)) (sym step.takes) taken in
+    subst (λ r. PutsAt how put after.put after.talk.asked r) (sym (step.replies ∙ no_more last.talk.replied step.reply ends.2))
+    (ends_puts how (last.talk.rest ++ step.more) after.talk.rest after.talk.asked ends.0 step.made made counts put last.put after.put
+    last.talk.replied ends.3 at_asked gains ends.4)
+end_puts (state.Leaving how_then) how put last after made stands gains goes =
+    subst (λ (t : Talk). PutsAt how put after.put t.asked t.replied) (sym goes.2)
+    (puts_whole how put after.put last.talk.asked last.talk.replied (subst (λ p. Gains put p last.talk.replied) (sym goes.4) gains))
+end_puts (state.Ended how_then) how put last after made stands gains goes = absurd stands
+end_puts state.Lost how put last after made stands gains goes = absurd stands
+
+lost_puts : (s : State) (put : Option (List ℕ)) (last after : Moment) (made : List Answer)
+    → StandsAs s last.talk.asked last.talk.replied made last.talk.rest → Gains put last.put last.talk.replied
+    → LosesFrom s last after → PutsPart put after.put after.talk.asked after.talk.replied
+lost_puts state.Open put last after made stands gains loses =
+    let breaks = loses.1 in
+    let counts = faults last.reads after.reads last.writes after.writes in
+    let taken = open_takes last.talk.asked last.talk.replied last.talk.rest breaks.more made stands in
+    let at_asked = subst (λ a. IsOpen a last.talk.replied made (last.talk.rest ++ breaks.more)) (sym breaks.takes) taken in
+    subst (λ r. PutsPart put after.put after.talk.asked r) (sym breaks.replies)
+    (breaks_puts (last.talk.rest ++ breaks.more) after.talk.asked breaks.unsent breaks.made made counts put last.put after.put
+    last.talk.replied breaks.place at_asked gains breaks.puts)
+lost_puts (state.Leaving how) put last after made stands gains loses =
+    subst (λ (t : Talk). PutsPart put after.put t.asked t.replied) (sym loses.0)
+    (inl (subst (λ p. Gains put p last.talk.replied) (sym loses.3) gains))
+lost_puts (state.Ended how) put last after made stands gains loses = absurd stands
+lost_puts state.Lost put last after made stands gains loses = absurd stands
+
+-- ---- no Bye beside an answer
+
+abbrev HaveNoBye : List Answer → Type 0
+HaveNoBye made = AllByRecursion (λ (answer : Answer). is_bye answer.call ≡ false) made
+
+answered_no_bye : (asks : Result ControlCall Rule) (last : Bool) (made : List Answer) (bytes : List ℕ)
+    → ((c : ControlCall) → asks ≡ Ok c → is_bye c ≡ false) → AnsweredBy asks last made bytes → HaveNoBye made
+answered_no_bye (Err rule) last made bytes says by = subst HaveNoBye (sym by.0) tt
+answered_no_bye (Ok c) last made bytes says (answer, (quiet, inl own), is) =
+    subst HaveNoBye (sym own.1) (ap is_bye own.0 ∙ says c refl, tt)
+answered_no_bye (Ok c) last made bytes says (answer, (quiet, inr settled), is) =
+    subst HaveNoBye (sym settled.1) (says c refl, (ap is_bye settled.0, tt))
+
+answers_no_bye : (stands : State) (hand rest reply : List ℕ) (made : List Answer) → Answers stands hand rest reply made → HaveNoBye made
+answers_no_bye stands hand rest reply made (inl (request, begins, answered, is)) =
+    answered_no_bye (call_of_request request) request.last made reply (λ c. request_asks_no_bye request c) answered
+answers_no_bye stands hand rest reply made (inr bad) = subst HaveNoBye (sym bad.3) tt
+
+turn_no_bye : (s : State) (before after : Moment) → ComesFrom s next.Answered before after
+    → (made : List Answer) × (after.answers ≡ before.answers ++ made) × HaveNoBye made
+turn_no_bye state.Open before after goes =
+    let step = goes.0 in
+    (step.made, step.calls, answers_no_bye after.talk.state (before.talk.rest ++ step.more) after.talk.rest step.reply step.made step.outcome.0)
+turn_no_bye (state.Leaving how) before after goes = absurd (cc (goes.1))
+turn_no_bye (state.Ended how) before after goes = absurd (cc (goes.0))
+turn_no_bye state.Lost before after goes = absurd goes
+
 -- ---- the laws
+
+pub answers_without_bye : AnswersWithoutBye
+answers_without_bye before after goes = turn_no_bye before.talk.state before after goes
 
 pub is_session_where_left : IsSessionWhereLeft
 is_session_where_left first last moments is runs =
-    let so_far = runs_answer first.answers first.put first moments last (starts first is) runs in
-    (so_far.made, so_far.calls, inl (last.talk.rest, so_far.is_open))
+    let so_far = runs_from_start first last moments is runs in
+    (so_far.made, so_far.calls, left_log last.talk.state last.talk.asked last.talk.replied last.talk.rest so_far.made so_far.stands)
 
 pub ends_as_session : EndsAsSession
 ends_as_session first last after moments how is runs goes =
-    let so_far = runs_answer first.answers first.put first moments last (starts first is) runs in
-    let step = (step_of (next.Ended how) last after so_far.state_is goes).1 in
-    let taken = open_takes last.talk.asked last.talk.replied last.talk.rest step.more so_far.made so_far.is_open in
-    let at_asked = subst (λ a. IsOpen a last.talk.replied so_far.made (last.talk.rest ++ step.more)) (sym step.takes) taken in
-    let log = log_is how after.talk.asked last.talk.replied (last.talk.rest ++ step.more) step.reply step.unsent so_far.made step.made at_asked step.outcome in (
-      so_far.made ++ step.made,
-      step.calls ∙ ap (λ l. l ++ step.made) so_far.calls ∙ append_assoc first.answers so_far.made step.made,
-      subst (λ r. IsSessionLog how after.talk.asked r (so_far.made ++ step.made)) (sym step.replies) log,
-    )
+    let so_far = runs_from_start first last moments is runs in
+    end_log last.talk.state how first.answers last after so_far.made so_far.stands so_far.calls goes
 
-puts_at : (how : SessionEnd) (hand asked reply unsent : List ℕ) (made : List Answer) (a b c : Option (List ℕ)) (replied : List ℕ)
-    → EndsBy how hand asked reply unsent made → Gains a b replied → PutsWith b c reply unsent → PutsAt how a c (replied ++ reply)
-puts_at end.Ended hand asked reply unsent made a b c replied ends gains puts = puts_whole a b c replied reply unsent gains puts ends.2.3
-puts_at end.Cut hand asked reply unsent made a b c replied ends gains puts = puts_whole a b c replied reply unsent gains puts ends.2.4
-puts_at end.Bad hand asked reply unsent made a b c replied ends gains puts = puts_whole a b c replied reply unsent gains puts ends.2.3
-puts_at end.Closed hand asked reply unsent made a b c replied ends gains puts = puts_whole a b c replied reply unsent gains puts ends.2.5
-puts_at end.Fault hand asked reply unsent made a b c replied ends gains puts = puts_on a b c replied reply unsent gains puts
-puts_at end.Limit hand asked reply unsent made a b c replied ends gains puts = puts_whole a b c replied reply unsent gains puts ends.2.3
-puts_at end.Stopped hand asked reply unsent made a b c replied ends gains puts = puts_on a b c replied reply unsent gains puts
+pub is_session_where_lost : IsSessionWhereLost
+is_session_where_lost first last after moments is runs loses =
+    let so_far = runs_from_start first last moments is runs in
+    lost_log last.talk.state first.answers last after so_far.made so_far.stands so_far.calls loses
 
 pub puts_its_replies : PutsItsReplies
 puts_its_replies first last after moments how is runs goes =
-    let so_far = runs_answer first.answers first.put first moments last (starts first is) runs in
-    let step = (step_of (next.Ended how) last after so_far.state_is goes).1 in (
-      so_far.puts,
-      subst (λ r. PutsAt how first.put after.put r) (sym step.replies)
-          (puts_at how (last.talk.rest ++ step.more) after.talk.asked step.reply step.unsent step.made first.put last.put after.put
-          last.talk.replied step.outcome so_far.puts step.puts),
-    )
+    let so_far = runs_from_start first last moments is runs in
+    (so_far.puts, end_puts last.talk.state how first.put last after so_far.made so_far.stands so_far.puts goes)
+
+pub puts_its_replies_where_lost : PutsItsRepliesWhereLost
+puts_its_replies_where_lost first last after moments is runs loses =
+    let so_far = runs_from_start first last moments is runs in
+    lost_puts last.talk.state first.put last after so_far.made so_far.stands so_far.puts loses

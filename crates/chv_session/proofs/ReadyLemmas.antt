@@ -9,7 +9,9 @@ use Rattle.chv_defs.specs.Routes.{call_of_request}
 use Rattle.chv_defs.specs.SessionBytes.{AnsweredBy}
 use Rattle.chv_session.specs.declared.next.Next.{Next}
 use Rattle.chv_session.specs.declared.next.Next.TheVariants as next
-use Rattle.chv_session.specs.Step.{Step, IsReady}
+use Rattle.chv_session.specs.declared.state.State.{State}
+use Rattle.chv_session.specs.Moment.{Faults}
+use Rattle.chv_session.specs.Step.{Answers, Step, IsReady}
 use Rattle.chv_session.proofs.DeskLemmas.{held_behind}
 
 answered_ready : (asks : Result ControlCall Rule) (last : Bool) (before made : List Answer) (bytes : List ℕ) → is_held before ≡ false
@@ -22,10 +24,16 @@ answered_ready (Ok c) last before made bytes free (answer, (quiet, inr settled),
     ap is_held (ap (λ m. before ++ m) settled.1 ∙ sym (append_assoc before (first ∷ []) (answer ∷ [])))
     ∙ held_behind (before ++ first ∷ []) answer ∙ quiet
 
-pub step_ready : (what : Next) (asked asked_after rest rest_after replied replied_after : List ℕ) (answers answers_after : List Answer)
-    (put put_after : Option (List ℕ)) → Step what asked asked_after rest rest_after replied replied_after answers answers_after put put_after
+answer_ready : (stands : State) (hand rest reply : List ℕ) (before made : List Answer) → is_held before ≡ false
+    → Answers stands hand rest reply made → is_held (before ++ made) ≡ false
+answer_ready stands hand rest reply before made free (inl (request, begins, answered, is)) =
+    answered_ready (call_of_request request) request.last before made reply free answered
+answer_ready stands hand rest reply before made free (inr bad) = ap is_held (ap (λ m. before ++ m) bad.3 ∙ append-nil before) ∙ free
+
+pub step_ready : (what : Next) (stands : State) (asked asked_after rest rest_after replied replied_after : List ℕ) (answers answers_after : List Answer)
+    (put put_after : Option (List ℕ)) (counts : Faults)
+    → Step what stands asked asked_after rest rest_after replied replied_after answers answers_after put put_after counts
     → is_held answers ≡ false → IsReady what answers_after
-step_ready next.Answered asked asked_after rest rest_after replied replied_after answers answers_after put put_after step free =
-    ap is_held step.calls
-    ∙ answered_ready (call_of_request step.outcome.0) step.outcome.0.last answers step.made step.reply free step.outcome.3
-step_ready (next.Ended how) asked asked_after rest rest_after replied replied_after answers answers_after put put_after step free = tt
+step_ready next.Answered stands asked asked_after rest rest_after replied replied_after answers answers_after put put_after counts step free =
+    ap is_held step.calls ∙ answer_ready stands (rest ++ step.more) rest_after step.reply answers step.made free step.outcome.0
+step_ready (next.Ended how) stands asked asked_after rest rest_after replied replied_after answers answers_after put put_after counts step free = tt

@@ -1,13 +1,14 @@
--- What one call comes to, from what was found to what was said.
-use Rattle.std.proofs.Common.{◌≡◌, ◌≢◌, ◌<◌, ◌==◌, ℕ, Bool, true, false, List, [], ◌∷◌, ◌++◌, length, take, Option, Some, None, refl, sym, ap, subst, ◌∙◌, inl, inr, arith, append_assoc}
+-- What one call comes to, from what was found to where the session stands.
+use Rattle.std.proofs.Common.{◌≡◌, ◌≢◌, ◌≤◌, ◌<◌, ◌==◌, ℕ, Bool, true, false, List, [], ◌∷◌, ◌++◌, length, Option, Some, None, refl, sym, ap, subst, ◌∙◌, inl, inr, arith, append_assoc}
 use Rattle.std.proofs.lemmas.List.{append-nil}
 use Rattle.std.proofs.lemmas.Bool.{eqb-true}
+use Rattle.std.specs.List.{concat}
 use Rattle.chv_defs.specs.declared.request.Request.{Request}
 use Rattle.chv_defs.specs.declared.control.ControlCall.TheVariants as call
 use Rattle.chv_defs.specs.declared.session.SessionEnd.{SessionEnd}
 use Rattle.chv_defs.specs.declared.session.SessionEnd.TheVariants as end
 use Rattle.chv_defs.specs.Desks.{Answer}
-use Rattle.chv_defs.specs.Outside.{Gains, GainsPart}
+use Rattle.chv_defs.specs.Outside.{Rose, Gains, GainsPart}
 use Rattle.chv_defs.specs.Requests.{BeginsWith, IsShort}
 use Rattle.chv_defs.specs.Routes.{refusal_bytes}
 use Rattle.chv_defs.specs.SessionBytes.{Answered, session_limit}
@@ -15,99 +16,85 @@ use Rattle.chv_session.specs.declared.fill.Found.{Found}
 use Rattle.chv_session.specs.declared.fill.Found.TheVariants as found
 use Rattle.chv_session.specs.declared.respond.Then.{Then}
 use Rattle.chv_session.specs.declared.respond.Then.TheVariants as then_is
-use Rattle.chv_session.specs.declared.next.Next.{Next}
 use Rattle.chv_session.specs.declared.next.Next.TheVariants as next
-use Rattle.chv_session.specs.Found.{IsFound, Finds}
-use Rattle.chv_session.specs.Response.{HasMade, HasMadeAlso, StopsIn, Responds, Sends, Finishes, then_after, end_at}
-use Rattle.chv_session.specs.Step.{PutsWith, PutsMore, ComesToEnd, EndsBy, Outcome, Step, Halts, Breaks}
+use Rattle.chv_session.specs.declared.state.State.{State}
+use Rattle.chv_session.specs.declared.state.State.TheVariants as state
+use Rattle.chv_session.specs.Moment.{Faults, faults}
+use Rattle.chv_session.specs.Taking.{TakesPieces}
+use Rattle.chv_session.specs.Found.{IsFound, Finds, IsCaused}
+use Rattle.chv_session.specs.Response.{HasMadeAlso, StopsIn, BreaksOn, Responds, Sends, Finishes, IsEnd, then_after, end_at}
+use Rattle.chv_session.specs.Step.{said_at, state_behind, Answers, ComesToEnd, EndsBy, Outcome, Step, Halts, BreaksAt, Breaks}
 
--- ---- what is put
+-- ---- what is put, and what rose
 
-puts_whole : (put put_after : Option (List ℕ)) (reply : List ℕ) → Gains put put_after reply → PutsWith put put_after reply []
-puts_whole None put_after reply gains = gains
-puts_whole (Some before) None reply gains = absurd gains
-puts_whole (Some before) (Some after) reply gains = (0, omega arith, gains ∙ ap (λ l. before ++ l) (sym (append-nil reply)))
+part_none : (put put_after : Option (List ℕ)) → put_after ≡ put → GainsPart put put_after []
+part_none None put_after same = same
+part_none (Some before) None same = absurd (cc same)
+part_none (Some before) (Some after) same = let e : after ≡ before = cc in (0, omega arith, e ∙ sym (append-nil before))
 
-puts_part : (put put_after : Option (List ℕ)) (unsent : List ℕ) → GainsPart put put_after unsent → PutsWith put put_after [] unsent
-puts_part None put_after unsent gains = gains
-puts_part (Some before) None unsent gains = absurd gains
-puts_part (Some before) (Some after) unsent gains = gains
+rose_within : (a b c d : ℕ) → a ≤ b → Rose b c → c ≤ d → Rose a d
+rose_within a b c d earlier rose later = omega arith
 
-puts_none : (put put_after : Option (List ℕ)) → put_after ≡ put → PutsWith put put_after [] []
-puts_none None put_after same = same
-puts_none (Some before) None same = absurd (cc same)
-puts_none (Some before) (Some after) same = let e : after ≡ before = cc in (0, omega arith, e ∙ sym (append-nil before))
+caused_later : (what : Found) (a b c : ℕ) → IsCaused what a b → b ≤ c → IsCaused what a c
+caused_later found.Fault a b c caused later = omega arith
+caused_later (found.Request request) a b c caused later = tt
+caused_later (found.Bad rule) a b c caused later = tt
+caused_later found.End a b c caused later = tt
+caused_later found.Limit a b c caused later = tt
+
+sends_within : (response : Option (List ℕ)) (planned then_of : Then) (replied replied_after : List ℕ) (put put_after : Option (List ℕ)) (a b c d : ℕ)
+    → a ≤ b → c ≤ d → Sends response planned then_of replied replied_after put put_after b c
+    → Sends response planned then_of replied replied_after put put_after a d
+sends_within None planned then_of replied replied_after put put_after a b c d earlier later sends = sends
+sends_within (Some bytes) planned then_of replied replied_after put put_after a b c d earlier later (inl done) = inl done
+sends_within (Some bytes) planned then_of replied replied_after put put_after a b c d earlier later (inr failed) =
+    inr (failed.0, failed.1, failed.2, rose_within a b c d earlier failed.3 later)
 
 -- ---- what is planned
 
--- what comes then, with the reply that was put and the one that was not
-abbrev pub Comes : Then → List ℕ → List ℕ → List ℕ → List ℕ → List ℕ → List Answer → Type 0
-Comes then_is.GoOn hand rest asked reply unsent made =
-    (request : Request) × BeginsWith hand request rest × (request.last ≡ false) × Answered request made reply × (unsent ≡ [])
-Comes then_is.Stop hand rest asked reply unsent made =
-    (request : Request) × (behind : List ℕ) × BeginsWith hand request behind × StopsIn request made × (reply ≡ []) × (unsent ≡ [])
-Comes (then_is.End how) hand rest asked reply unsent made = ComesToEnd how hand asked reply unsent made
-
--- the desk tells that the run stopped where that comes then
-abbrev pub HaltsAt : Then → Bool → Bool → Type 0
-HaltsAt then_is.GoOn halted halted_after = halted_after ≡ halted
-HaltsAt then_is.Stop halted halted_after = halted_after ≡ true
-HaltsAt (then_is.End how) halted halted_after = halted_after ≡ halted
-
--- a reply was put or was not, and this comes then
-pub record Sent (halted halted_after : Bool) (then_of : Then) (hand rest asked replied replied_after : List ℕ) (put put_after : Option (List ℕ)) (made : List Answer) : Type 0 where
-  pub reply : List ℕ
-  pub unsent : List ℕ
-  pub replies : replied_after ≡ replied ++ reply
-  pub puts : PutsWith put put_after reply unsent
-  pub comes : Comes then_of hand rest asked reply unsent made
-  pub halts : HaltsAt then_of halted halted_after
+-- what was found and made, what was put and kept of it, and what comes then
+abbrev pub Comes : Then → List ℕ → List ℕ → List ℕ → List ℕ → List ℕ → Option (List ℕ) → Option (List ℕ) → List Answer → Bool → Bool → Faults → Type 0
+Comes then_is.GoOn hand rest asked replied replied_after put put_after made halted halted_after counts =
+    (reply : List ℕ) × Answers state.Open hand rest reply made × (replied_after ≡ replied ++ reply) × Gains put put_after reply
+    × (halted_after ≡ halted)
+Comes (then_is.Leave how) hand rest asked replied replied_after put put_after made halted halted_after counts =
+    (reply : List ℕ) × Answers (state.Leaving how) hand rest reply made × (replied_after ≡ replied ++ reply)
+    × Gains put put_after reply × (halted_after ≡ halted)
+Comes then_is.Stop hand rest asked replied replied_after put put_after made halted halted_after counts =
+    (request : Request) × BeginsWith hand request rest × StopsIn request made × (replied_after ≡ replied) × (put_after ≡ put)
+    × (halted_after ≡ true)
+Comes (then_is.End how) hand rest asked replied replied_after put put_after made halted halted_after counts =
+    (unsent : List ℕ) × ComesToEnd how hand rest asked unsent made counts × (replied_after ≡ replied)
+    × GainsPart put put_after unsent × (halted_after ≡ halted)
 
 -- no reply
-sent_none : (halted halted_after : Bool) (planned then_of : Then) (hand rest asked replied replied_after : List ℕ) (put put_after : Option (List ℕ)) (made : List Answer)
-    → then_of ≡ planned → replied_after ≡ replied → put_after ≡ put → Comes planned hand rest asked [] [] made
-    → HaltsAt planned halted halted_after → Sent halted halted_after then_of hand rest asked replied replied_after put put_after made
-sent_none halted halted_after planned then_of hand rest asked replied replied_after put put_after made is replies puts comes halts = record {
-  reply = [];
-  unsent = [];
-  replies = replies ∙ sym (append-nil replied);
-  puts = puts_none put put_after puts;
-  comes = subst (λ t. Comes t hand rest asked [] [] made) (sym is) comes;
-  halts = subst (λ t. HaltsAt t halted halted_after) (sym is) halts;
-}
+sent_none : (planned then_of : Then) (hand rest asked replied replied_after : List ℕ) (put put_after : Option (List ℕ)) (made : List Answer) (halted halted_after : Bool) (counts : Faults)
+    → Sends None planned then_of replied replied_after put put_after counts.writes counts.writes_after
+    → (replied_after ≡ replied → put_after ≡ put → Comes planned hand rest asked replied replied_after put put_after made halted halted_after counts)
+    → Comes then_of hand rest asked replied replied_after put put_after made halted halted_after counts
+sent_none planned then_of hand rest asked replied replied_after put put_after made halted halted_after counts sends comes =
+    subst (λ t. Comes t hand rest asked replied replied_after put put_after made halted halted_after counts) (sym sends.0) (comes sends.1 sends.2)
 
 -- a reply, put or not
-sent_some : (halted halted_after : Bool) (bytes : List ℕ) (planned then_of : Then) (hand rest asked replied replied_after : List ℕ) (put put_after : Option (List ℕ))
-    (faults faults_after : ℕ) (made : List Answer) → Sends (Some bytes) planned then_of replied replied_after put put_after faults faults_after
-    → Comes planned hand rest asked bytes [] made → ComesToEnd end.Fault hand asked [] bytes made
-    → HaltsAt planned halted halted_after → halted_after ≡ halted → Sent halted halted_after then_of hand rest asked replied replied_after put put_after made
-sent_some halted halted_after bytes planned then_of hand rest asked replied replied_after put put_after faults faults_after made (inl done) comes fails halts goes = record {
-  reply = bytes;
-  unsent = [];
-  replies = done.1;
-  puts = puts_whole put put_after bytes done.2;
-  comes = subst (λ t. Comes t hand rest asked bytes [] made) (sym done.0) comes;
-  halts = subst (λ t. HaltsAt t halted halted_after) (sym done.0) halts;
-}
-sent_some halted halted_after bytes planned then_of hand rest asked replied replied_after put put_after faults faults_after made (inr failed) comes fails halts goes = record {
-  reply = [];
-  unsent = bytes;
-  replies = failed.1 ∙ sym (append-nil replied);
-  puts = puts_part put put_after bytes failed.2;
-  comes = subst (λ t. Comes t hand rest asked [] bytes made) (sym failed.0) fails;
-  halts = subst (λ t. HaltsAt t halted halted_after) (sym failed.0) goes;
-}
+sent_some : (planned then_of : Then) (bytes : List ℕ) (hand rest asked replied replied_after : List ℕ) (put put_after : Option (List ℕ)) (made : List Answer) (halted halted_after : Bool) (counts : Faults)
+    → Sends (Some bytes) planned then_of replied replied_after put put_after counts.writes counts.writes_after
+    → (replied_after ≡ replied ++ bytes → Gains put put_after bytes → Comes planned hand rest asked replied replied_after put put_after made halted halted_after counts)
+    → (Rose counts.writes counts.writes_after → ComesToEnd end.Fault hand rest asked bytes made counts)
+    → halted_after ≡ halted → Comes then_of hand rest asked replied replied_after put put_after made halted halted_after counts
+sent_some planned then_of bytes hand rest asked replied replied_after put put_after made halted halted_after counts (inl done) whole part goes =
+    subst (λ t. Comes t hand rest asked replied replied_after put put_after made halted halted_after counts) (sym done.0) (whole done.1 done.2)
+sent_some planned then_of bytes hand rest asked replied replied_after put put_after made halted halted_after counts (inr failed) whole part goes =
+    subst (λ t. Comes t hand rest asked replied replied_after put put_after made halted halted_after counts) (sym failed.0) (bytes, part failed.3, failed.1, failed.2, goes)
 
 -- ---- by what was found
 
-answer_comes : (request : Request) (last : Bool) (hand rest asked bytes : List ℕ) (made : List Answer) → request.last ≡ last
-    → BeginsWith hand request rest → Answered request made bytes → Comes (then_after last) hand rest asked bytes [] made
-answer_comes request true hand rest asked bytes made is begins answered = (request, rest, begins, is, answered, refl)
-answer_comes request false hand rest asked bytes made is begins answered = (request, begins, is, answered, refl)
-
-answer_goes : (last : Bool) (halted halted_after : Bool) → halted_after ≡ halted → HaltsAt (then_after last) halted halted_after
-answer_goes true halted halted_after goes = goes
-answer_goes false halted halted_after goes = goes
+answer_comes : (request : Request) (last : Bool) (bytes : List ℕ) (hand rest asked replied replied_after : List ℕ) (put put_after : Option (List ℕ)) (made : List Answer) (halted halted_after : Bool) (counts : Faults)
+    → request.last ≡ last → BeginsWith hand request rest → Answered request made bytes → halted_after ≡ halted
+    → replied_after ≡ replied ++ bytes → Gains put put_after bytes → Comes (then_after last) hand rest asked replied replied_after put put_after made halted halted_after counts
+answer_comes request true bytes hand rest asked replied replied_after put put_after made halted halted_after counts is begins answered goes replies gains =
+    (bytes, inl (request, begins, answered, sym (ap state_behind is)), replies, gains, goes)
+answer_comes request false bytes hand rest asked replied replied_after put put_after made halted halted_after counts is begins answered goes replies gains =
+    (bytes, inl (request, begins, answered, sym (ap state_behind is)), replies, gains, goes)
 
 empty_is : (rest : List ℕ) → (length rest == 0) ≡ true → rest ≡ []
 empty_is [] e = refl
@@ -117,190 +104,290 @@ full_is : (rest : List ℕ) → (length rest == 0) ≡ false → rest ≢ []
 full_is [] e same = let some : true ≡ false = e in absurd (cc some)
 full_is (x ∷ rest) e same = absurd (cc same)
 
-end_comes : (all : Bool) (hand rest asked : List ℕ) → all ≡ (length rest == 0) → rest ≡ hand → IsShort hand → length asked < session_limit
-    → ComesToEnd (end_at all) hand asked [] [] []
-end_comes true hand rest asked is same short below = (sym same ∙ empty_is rest (sym is), below, refl, refl, refl)
-end_comes false hand rest asked is same short below =
-    (short, λ e. full_is rest (sym is) (same ∙ e), below, refl, refl, refl)
+end_comes : (all : Bool) (hand rest asked : List ℕ) (counts : Faults) → all ≡ (length rest == 0) → rest ≡ hand → IsShort hand
+    → length asked < session_limit → ComesToEnd (end_at all) hand rest asked [] [] counts
+end_comes true hand rest asked counts is same short below =
+    let none : rest ≡ [] = empty_is rest (sym is) in (sym same ∙ none, none, below, refl, refl)
+end_comes false hand rest asked counts is same short below =
+    (short, λ e. full_is rest (sym is) (same ∙ e), same, below, refl, refl)
 
-pub sent_is : (what : Found) (all : Bool) (response : Option (List ℕ)) (planned then_of : Then) (hand rest asked replied replied_after : List ℕ)
-    (put put_after : Option (List ℕ)) (faults faults_after : ℕ) (halted halted_after : Bool) (made : List Answer)
+-- an end with no reply
+ends_silent : (how : SessionEnd) (planned : Then) (hand rest asked replied replied_after : List ℕ) (put put_after : Option (List ℕ)) (made : List Answer) (halted halted_after : Bool) (counts : Faults)
+    → planned ≡ then_is.End how → ComesToEnd how hand rest asked [] made counts → halted_after ≡ halted
+    → replied_after ≡ replied → put_after ≡ put → Comes planned hand rest asked replied replied_after put put_after made halted halted_after counts
+ends_silent how planned hand rest asked replied replied_after put put_after made halted halted_after counts is comes goes replies same =
+    subst (λ t. Comes t hand rest asked replied replied_after put put_after made halted halted_after counts) (sym is) ([], comes, replies, part_none put put_after same, goes)
+
+pub comes_is : (what : Found) (all : Bool) (response : Option (List ℕ)) (planned then_of : Then) (hand rest asked replied replied_after : List ℕ) (put put_after : Option (List ℕ)) (made : List Answer) (halted halted_after : Bool) (counts : Faults)
     → IsFound what hand rest asked → all ≡ (length rest == 0) → Responds what all response planned made halted halted_after
-    → Sends response planned then_of replied replied_after put put_after faults faults_after
-    → Sent halted halted_after then_of hand rest asked replied replied_after put put_after made
-sent_is (found.Request request) all response planned then_of hand rest asked replied replied_after put put_after faults faults_after halted halted_after made is_found is_all (inl serves) sends =
-    let sends_it = subst (λ r. Sends r planned then_of replied replied_after put put_after faults faults_after) serves.1 sends in
-    sent_some halted halted_after serves.0 planned then_of hand rest asked replied replied_after put put_after faults faults_after made sends_it
-    (subst (λ t. Comes t hand rest asked serves.0 [] made) (sym serves.2) (answer_comes request request.last hand rest asked serves.0 made refl is_found serves.3))
-    (refl, inr (inr (request, rest, is_found, serves.3)))
-    (subst (λ t. HaltsAt t halted halted_after) (sym serves.2) (answer_goes request.last halted halted_after serves.4)) serves.4
-sent_is (found.Request request) all response planned then_of hand rest asked replied replied_after put put_after faults faults_after halted halted_after made is_found is_all (inr stops) sends =
-    let sends_it = subst (λ r. Sends r planned then_of replied replied_after put put_after faults faults_after) stops.0 sends in
-    sent_none halted halted_after planned then_of hand rest asked replied replied_after put put_after made sends_it.0 sends_it.1 sends_it.2
-    (subst (λ t. Comes t hand rest asked [] [] made) (sym stops.1) (request, rest, is_found, stops.2, refl, refl))
-    (subst (λ t. HaltsAt t halted halted_after) (sym stops.1) stops.3)
-sent_is (found.Bad rule) all response planned then_of hand rest asked replied replied_after put put_after faults faults_after halted halted_after made is_found is_all responds sends =
-    let sends_it = subst (λ r. Sends r planned then_of replied replied_after put put_after faults faults_after) responds.0 sends in
-    sent_some halted halted_after (refusal_bytes rule true) planned then_of hand rest asked replied replied_after put put_after faults faults_after made sends_it
-    (subst (λ t. Comes t hand rest asked (refusal_bytes rule true) [] made) (sym responds.1) (rule, is_found.0, refl, refl, responds.2))
-    (refl, inr (inl (rule, is_found.0, refl, responds.2)))
-    (subst (λ t. HaltsAt t halted halted_after) (sym responds.1) responds.3) responds.3
-sent_is found.End all response planned then_of hand rest asked replied replied_after put put_after faults faults_after halted halted_after made is_found is_all responds sends =
-    let sends_it = subst (λ r. Sends r planned then_of replied replied_after put put_after faults faults_after) responds.0 sends in
-    sent_none halted halted_after planned then_of hand rest asked replied replied_after put put_after made sends_it.0 sends_it.1 sends_it.2
-    (subst (λ t. Comes t hand rest asked [] [] made) (sym responds.1)
-    (subst (λ m. ComesToEnd (end_at all) hand asked [] [] m) (sym responds.2) (end_comes all hand rest asked is_all is_found.1 is_found.0 is_found.2)))
-    (subst (λ t. HaltsAt t halted halted_after) (sym responds.1) responds.3)
-sent_is found.Fault all response planned then_of hand rest asked replied replied_after put put_after faults faults_after halted halted_after made is_found is_all responds sends =
-    let sends_it = subst (λ r. Sends r planned then_of replied replied_after put put_after faults faults_after) responds.0 sends in
-    sent_none halted halted_after planned then_of hand rest asked replied replied_after put put_after made sends_it.0 sends_it.1 sends_it.2
-    (subst (λ t. Comes t hand rest asked [] [] made) (sym responds.1) (refl, inl (is_found.0, is_found.2, refl, responds.2)))
-    (subst (λ t. HaltsAt t halted halted_after) (sym responds.1) responds.3)
-sent_is found.Limit all response planned then_of hand rest asked replied replied_after put put_after faults faults_after halted halted_after made is_found is_all responds sends =
-    let sends_it = subst (λ r. Sends r planned then_of replied replied_after put put_after faults faults_after) responds.0 sends in
-    sent_none halted halted_after planned then_of hand rest asked replied replied_after put put_after made sends_it.0 sends_it.1 sends_it.2
-    (subst (λ t. Comes t hand rest asked [] [] made) (sym responds.1) (is_found.0, is_found.2, refl, refl, responds.2))
-    (subst (λ t. HaltsAt t halted halted_after) (sym responds.1) responds.3)
+    → Sends response planned then_of replied replied_after put put_after counts.writes counts.writes_after
+    → IsCaused what counts.reads counts.reads_after
+    → Comes then_of hand rest asked replied replied_after put put_after made halted halted_after counts
+comes_is (found.Request request) all response planned then_of hand rest asked replied replied_after put put_after made halted halted_after counts is_found is_all (inl serves) sends caused =
+    sent_some planned then_of serves.0 hand rest asked replied replied_after put put_after made halted halted_after counts
+    (subst (λ r. Sends r planned then_of replied replied_after put put_after counts.writes counts.writes_after) serves.1 sends)
+    (λ replies gains. subst (λ t. Comes t hand rest asked replied replied_after put put_after made halted halted_after counts) (sym serves.2)
+    (answer_comes request request.last serves.0 hand rest asked replied replied_after put put_after made halted halted_after counts refl is_found serves.3 serves.4 replies gains))
+    (λ rose. inr (inr (request, is_found, serves.3, rose))) serves.4
+comes_is (found.Request request) all response planned then_of hand rest asked replied replied_after put put_after made halted halted_after counts is_found is_all (inr stops) sends caused =
+    sent_none planned then_of hand rest asked replied replied_after put put_after made halted halted_after counts
+    (subst (λ r. Sends r planned then_of replied replied_after put put_after counts.writes counts.writes_after) stops.0 sends)
+    (λ replies same. subst (λ t. Comes t hand rest asked replied replied_after put put_after made halted halted_after counts) (sym stops.1) (request, is_found, stops.2, replies, same, stops.3))
+comes_is (found.Bad rule) all response planned then_of hand rest asked replied replied_after put put_after made halted halted_after counts is_found is_all responds sends caused =
+    sent_some planned then_of (refusal_bytes rule true) hand rest asked replied replied_after put put_after made halted halted_after counts
+    (subst (λ r. Sends r planned then_of replied replied_after put put_after counts.writes counts.writes_after) responds.0 sends)
+    (λ replies gains. subst (λ t. Comes t hand rest asked replied replied_after put put_after made halted halted_after counts) (sym responds.1)
+    (refusal_bytes rule true, inr (rule, is_found.0, is_found.1, responds.2, refl, refl), replies, gains, responds.3))
+    (λ rose. inr (inl (rule, is_found.0, is_found.1, refl, responds.2, rose))) responds.3
+comes_is found.End all response planned then_of hand rest asked replied replied_after put put_after made halted halted_after counts is_found is_all responds sends caused =
+    sent_none planned then_of hand rest asked replied replied_after put put_after made halted halted_after counts
+    (subst (λ r. Sends r planned then_of replied replied_after put put_after counts.writes counts.writes_after) responds.0 sends)
+    (ends_silent (end_at all) planned hand rest asked replied replied_after put put_after made halted halted_after counts responds.1
+    (subst (λ m. ComesToEnd (end_at all) hand rest asked [] m counts) (sym responds.2)
+    (end_comes all hand rest asked counts is_all is_found.1 is_found.0 is_found.2)) responds.3)
+comes_is found.Fault all response planned then_of hand rest asked replied replied_after put put_after made halted halted_after counts is_found is_all responds sends caused =
+    sent_none planned then_of hand rest asked replied replied_after put put_after made halted halted_after counts
+    (subst (λ r. Sends r planned then_of replied replied_after put put_after counts.writes counts.writes_after) responds.0 sends)
+    (ends_silent end.Fault planned hand rest asked replied replied_after put put_after made halted halted_after counts responds.1
+    (inl (is_found.0, is_found.1, is_found.2, refl, responds.2, caused)) responds.3)
+comes_is found.Limit all response planned then_of hand rest asked replied replied_after put put_after made halted halted_after counts is_found is_all responds sends caused =
+    sent_none planned then_of hand rest asked replied replied_after put put_after made halted halted_after counts
+    (subst (λ r. Sends r planned then_of replied replied_after put put_after counts.writes counts.writes_after) responds.0 sends)
+    (ends_silent end.Limit planned hand rest asked replied replied_after put put_after made halted halted_after counts responds.1
+    (is_found.0, is_found.1, is_found.2, refl, responds.2) responds.3)
 
 -- ---- what is said at last
 
-ends_by : (how : SessionEnd) (hand asked reply unsent : List ℕ) (calls : List Answer) (bye : Answer) → ComesToEnd how hand asked reply unsent calls
-    → bye.call ≡ call.Bye → EndsBy how hand asked reply unsent (calls ++ bye ∷ [])
-ends_by end.Ended hand asked reply unsent calls bye comes is = (calls, bye, comes, is, refl)
-ends_by end.Cut hand asked reply unsent calls bye comes is = (calls, bye, comes, is, refl)
-ends_by end.Bad hand asked reply unsent calls bye comes is = (calls, bye, comes, is, refl)
-ends_by end.Closed hand asked reply unsent calls bye comes is = (calls, bye, comes, is, refl)
-ends_by end.Fault hand asked reply unsent calls bye comes is = (calls, bye, comes, is, refl)
-ends_by end.Limit hand asked reply unsent calls bye comes is = (calls, bye, comes, is, refl)
-ends_by end.Stopped hand asked reply unsent calls bye comes is = absurd comes
+ends_by : (how : SessionEnd) (hand rest asked unsent : List ℕ) (calls : List Answer) (bye : Answer) (counts : Faults)
+    → ComesToEnd how hand rest asked unsent calls counts → bye.call ≡ call.Bye
+    → EndsBy how hand rest asked unsent (calls ++ bye ∷ []) counts
+ends_by end.Ended hand rest asked unsent calls bye counts comes is = (calls, bye, comes, is, refl)
+ends_by end.Cut hand rest asked unsent calls bye counts comes is = (calls, bye, comes, is, refl)
+ends_by end.Fault hand rest asked unsent calls bye counts comes is = (calls, bye, comes, is, refl)
+ends_by end.Limit hand rest asked unsent calls bye counts comes is = (calls, bye, comes, is, refl)
+ends_by end.Bad hand rest asked unsent calls bye counts comes is = absurd comes
+ends_by end.Closed hand rest asked unsent calls bye counts comes is = absurd comes
+ends_by end.Stopped hand rest asked unsent calls bye counts comes is = absurd comes
 
--- the calls with a Bye behind them, or none
-pub record Said (what : Next) (hand rest asked reply unsent : List ℕ) (answers answers_after : List Answer) : Type 0 where
+halts_end : (how : SessionEnd) (hand rest asked unsent : List ℕ) (made : List Answer) (counts : Faults) (halted halted_after : Bool)
+    → ComesToEnd how hand rest asked unsent made counts → halted_after ≡ halted → Halts (next.Ended how) halted halted_after
+halts_end end.Ended hand rest asked unsent made counts halted halted_after comes goes = goes
+halts_end end.Cut hand rest asked unsent made counts halted halted_after comes goes = goes
+halts_end end.Fault hand rest asked unsent made counts halted halted_after comes goes = goes
+halts_end end.Limit hand rest asked unsent made counts halted halted_after comes goes = goes
+halts_end end.Bad hand rest asked unsent made counts halted halted_after comes goes = absurd comes
+halts_end end.Closed hand rest asked unsent made counts halted halted_after comes goes = absurd comes
+halts_end end.Stopped hand rest asked unsent made counts halted halted_after comes goes = absurd comes
+
+-- the calls and the reply, and where the session stands
+pub record Said (stands : State) (hand rest asked replied replied_after : List ℕ) (put put_after : Option (List ℕ)) (answers answers_after : List Answer) (halted halted_after : Bool) (counts : Faults) : Type 0 where
   pub made : List Answer
+  pub reply : List ℕ
   pub calls : answers_after ≡ answers ++ made
-  pub outcome : Outcome what hand rest asked reply unsent made
+  pub replies : replied_after ≡ replied ++ reply
+  pub outcome : Outcome (said_at stands) stands hand rest asked reply made put put_after counts
+  pub halts : Halts (said_at stands) halted halted_after
 
-said_is : (then_of : Then) (what : Next) (hand rest asked reply unsent : List ℕ) (first middle after : List Answer) (halted halted_after : Bool)
-    (made : List Answer) → middle ≡ first ++ made → Comes then_of hand rest asked reply unsent made
-    → Finishes then_of what middle after halted halted_after → Said what hand rest asked reply unsent first after
-said_is then_is.GoOn what hand rest asked reply unsent first middle after halted halted_after made is comes finishes = record {
+said_is : (then_of : Then) (stands : State) (hand rest asked replied replied_after : List ℕ) (put put_after : Option (List ℕ))
+    (first middle after made : List Answer) (halted halted_then halted_after : Bool) (counts : Faults) → middle ≡ first ++ made
+    → Comes then_of hand rest asked replied replied_after put put_after made halted halted_then counts
+    → Finishes then_of stands middle after halted_then halted_after
+    → Said stands hand rest asked replied replied_after put put_after first after halted halted_after counts
+said_is then_is.GoOn stands hand rest asked replied replied_after put put_after first middle after made halted halted_then halted_after counts is comes finishes = record {
   made = made;
+  reply = comes.0;
   calls = finishes.1 ∙ is;
-  outcome = subst (λ w. Outcome w hand rest asked reply unsent made) (sym finishes.0) comes;
+  replies = comes.2;
+  outcome = subst (λ s. Outcome (said_at s) s hand rest asked comes.0 made put put_after counts) (sym finishes.0) (comes.1, comes.3);
+  halts = subst (λ s. Halts (said_at s) halted halted_after) (sym finishes.0) (finishes.2 ∙ comes.4);
 }
-said_is then_is.Stop what hand rest asked reply unsent first middle after halted halted_after made is comes finishes = record {
+said_is (then_is.Leave how) stands hand rest asked replied replied_after put put_after first middle after made halted halted_then halted_after counts is comes finishes = record {
   made = made;
+  reply = comes.0;
   calls = finishes.1 ∙ is;
-  outcome = subst (λ w. Outcome w hand rest asked reply unsent made) (sym finishes.0) (inl comes);
+  replies = comes.2;
+  outcome = subst (λ s. Outcome (said_at s) s hand rest asked comes.0 made put put_after counts) (sym finishes.0) (comes.1, comes.3);
+  halts = subst (λ s. Halts (said_at s) halted halted_after) (sym finishes.0) (finishes.2 ∙ comes.4);
 }
-said_is (then_is.End how) what hand rest asked reply unsent first middle after halted halted_after made is comes (inl byes) = record {
-  made = made ++ byes.1.0 ∷ [];
-  calls = byes.1.2 ∙ ap (λ l. l ++ byes.1.0 ∷ []) is ∙ append_assoc first made (byes.1.0 ∷ []);
-  outcome = subst (λ w. Outcome w hand rest asked reply unsent (made ++ byes.1.0 ∷ [])) (sym byes.0)
-      (ends_by how hand asked reply unsent made byes.1.0 comes byes.1.1);
-}
-said_is (then_is.End how) what hand rest asked reply unsent first middle after halted halted_after made is comes (inr stops) = record {
+said_is then_is.Stop stands hand rest asked replied replied_after put put_after first middle after made halted halted_then halted_after counts is comes finishes = record {
   made = made;
+  reply = [];
+  calls = finishes.1 ∙ is;
+  replies = comes.3 ∙ sym (append-nil replied);
+  outcome = subst (λ s. Outcome (said_at s) s hand rest asked [] made put put_after counts) (sym finishes.0)
+      ([], refl, refl, inl (comes.0, comes.1, comes.2, refl), part_none put put_after comes.4);
+  halts = subst (λ s. Halts (said_at s) halted halted_after) (sym finishes.0) (finishes.2 ∙ comes.5);
+}
+said_is (then_is.End how) stands hand rest asked replied replied_after put put_after first middle after made halted halted_then halted_after counts is comes (came, stands_is, inl byes) = record {
+  made = made ++ byes.0 ∷ [];
+  reply = [];
+  calls = byes.3 ∙ ap (λ l. l ++ byes.0 ∷ []) is ∙ append_assoc first made (byes.0 ∷ []);
+  replies = comes.2 ∙ sym (append-nil replied);
+  outcome = subst (λ s. Outcome (said_at s) s hand rest asked [] (made ++ byes.0 ∷ []) put put_after counts)
+      (sym (stands_is ∙ ap (λ e. state.Ended e) byes.1))
+      (comes.0, refl, refl, ends_by how hand rest asked comes.0 made byes.0 counts comes.1 byes.2, comes.3);
+  halts = subst (λ s. Halts (said_at s) halted halted_after) (sym (stands_is ∙ ap (λ e. state.Ended e) byes.1))
+      (halts_end how hand rest asked comes.0 made counts halted halted_after comes.1 (byes.4 ∙ comes.4));
+}
+said_is (then_is.End how) stands hand rest asked replied replied_after put put_after first middle after made halted halted_then halted_after counts is comes (came, stands_is, inr stops) = record {
+  made = made;
+  reply = [];
   calls = stops.1 ∙ is;
-  outcome = subst (λ w. Outcome w hand rest asked reply unsent made) (sym stops.0) (inr (how, comes));
+  replies = comes.2 ∙ sym (append-nil replied);
+  outcome = subst (λ s. Outcome (said_at s) s hand rest asked [] made put put_after counts)
+      (sym (stands_is ∙ ap (λ e. state.Ended e) stops.0)) (comes.0, refl, refl, inr (how, comes.1), comes.3);
+  halts = subst (λ s. Halts (said_at s) halted halted_after) (sym (stands_is ∙ ap (λ e. state.Ended e) stops.0)) stops.2;
 }
 
-pub step_is : (what : Found) (all : Bool) (response : Option (List ℕ)) (planned then_of : Then) (said : Next)
-    (asked asked_after rest rest_after replied replied_after : List ℕ) (first middle after : List Answer) (put put_then put_now put_after : Option (List ℕ))
-    (faults faults_after : ℕ) (halted halted_then halted_after : Bool)
-    → Finds what asked asked_after rest rest_after → all ≡ (length rest_after == 0)
+-- ---- a step
+
+-- all that a step knows before its last part
+pub record Turn (what : Found) (then_of : Then) (asked asked_after rest rest_after replied replied_after : List ℕ) (put put_after : Option (List ℕ)) (first middle : List Answer) (halted halted_then : Bool) (counts : Faults) : Type 0 where
+  pub more : List ℕ
+  pub made : List Answer
+  pub takes : asked_after ≡ asked ++ more
+  pub calls : middle ≡ first ++ made
+  pub comes : Comes then_of (rest ++ more) rest_after asked_after replied replied_after put put_after made halted halted_then counts
+
+pub turn_is : (what : Found) (all : Bool) (response : Option (List ℕ)) (planned then_of : Then)
+    (asked asked_after rest rest_after replied replied_after : List ℕ) (first middle : List Answer) (put put_then put_now put_after : Option (List ℕ))
+    (reads reads_then reads_after writes writes_then writes_now writes_after : ℕ) (halted halted_then : Bool)
+    → Finds what asked asked_after rest rest_after → IsCaused what reads reads_then → reads_then ≤ reads_after
+    → all ≡ (length rest_after == 0)
     → HasMadeAlso first middle (λ made. Responds what all response planned made halted halted_then)
-    → put_then ≡ put → Sends response planned then_of replied replied_after put_then put_now faults faults_after → put_after ≡ put_now
-    → Finishes then_of said middle after halted_then halted_after
-    → Step said asked asked_after rest rest_after replied replied_after first after put put_after
-step_is what all response planned then_of said asked asked_after rest rest_after replied replied_after first middle after put put_then put_now put_after faults faults_after halted halted_then halted_after finds is_all responds first_puts sends last_puts finishes =
-    let hand : List ℕ = rest ++ finds.0 in
-    let sends_it = subst (λ p. Sends response planned then_of replied replied_after p put_after faults faults_after) first_puts
-    (subst (λ q. Sends response planned then_of replied replied_after put_then q faults faults_after) (sym last_puts) sends) in
-    let sent = sent_is what all response planned then_of hand rest_after asked_after replied replied_after put put_after faults faults_after halted halted_then responds.0 finds.2 is_all responds.2 sends_it in
-    let last = said_is then_of said hand rest_after asked_after sent.reply sent.unsent first middle after halted_then halted_after responds.0 responds.1 sent.comes finishes in
+    → put_then ≡ put → writes ≤ writes_then
+    → Sends response planned then_of replied replied_after put_then put_now writes_then writes_now
+    → put_after ≡ put_now → writes_now ≤ writes_after
+    → Turn what then_of asked asked_after rest rest_after replied replied_after put put_after first middle halted halted_then
+    (faults reads reads_after writes writes_after)
+turn_is what all response planned then_of asked asked_after rest rest_after replied replied_after first middle put put_then put_now put_after reads reads_then reads_after writes writes_then writes_now writes_after halted halted_then finds caused reads_later is_all responds first_puts earlier sends last_puts later =
+    let sends_first = subst (λ p. Sends response planned then_of replied replied_after p put_now writes_then writes_now) first_puts sends in
+    let sends_last = subst (λ p. Sends response planned then_of replied replied_after put p writes_then writes_now) (sym last_puts) sends_first in
     record {
       more = finds.0;
-      made = last.made;
-      reply = sent.reply;
-      unsent = sent.unsent;
+      made = responds.0;
       takes = finds.1;
-      calls = last.calls;
-      replies = sent.replies;
-      puts = sent.puts;
-      outcome = last.outcome;
+      calls = responds.1;
+      comes = comes_is what all response planned then_of (rest ++ finds.0) rest_after asked_after replied replied_after put put_after
+          responds.0 halted halted_then (faults reads reads_after writes writes_after) finds.2 is_all responds.2
+          (sends_within response planned then_of replied replied_after put put_after writes writes_then writes_now writes_after earlier later sends_last)
+          (caused_later what reads reads_then reads_after caused reads_later);
     }
 
--- ---- whether the run stopped
+pub step_is : (what : Found) (then_of : Then) (stands : State) (asked asked_after rest rest_after replied replied_after : List ℕ)
+    (put put_after : Option (List ℕ)) (first middle after : List Answer) (halted halted_then halted_after : Bool) (counts : Faults)
+    → Turn what then_of asked asked_after rest rest_after replied replied_after put put_after first middle halted halted_then counts
+    → Finishes then_of stands middle after halted_then halted_after
+    → Step (said_at stands) stands asked asked_after rest rest_after replied replied_after first after put put_after counts
+step_is what then_of stands asked asked_after rest rest_after replied replied_after put put_after first middle after halted halted_then halted_after counts turn finishes =
+    let said = said_is then_of stands (rest ++ turn.more) rest_after asked_after replied replied_after put put_after first middle after
+    turn.made halted halted_then halted_after counts turn.calls turn.comes finishes in
+    record {
+      more = turn.more;
+      made = said.made;
+      reply = said.reply;
+      takes = turn.takes;
+      calls = said.calls;
+      replies = said.replies;
+      outcome = said.outcome;
+    }
 
-halts_end : (how : SessionEnd) (hand asked reply unsent : List ℕ) (made : List Answer) (halted halted_after : Bool)
-    → ComesToEnd how hand asked reply unsent made → halted_after ≡ halted → Halts (next.Ended how) halted halted_after
-halts_end end.Ended hand asked reply unsent made halted halted_after comes goes = goes
-halts_end end.Cut hand asked reply unsent made halted halted_after comes goes = goes
-halts_end end.Bad hand asked reply unsent made halted halted_after comes goes = goes
-halts_end end.Closed hand asked reply unsent made halted halted_after comes goes = goes
-halts_end end.Fault hand asked reply unsent made halted halted_after comes goes = goes
-halts_end end.Limit hand asked reply unsent made halted halted_after comes goes = goes
-halts_end end.Stopped hand asked reply unsent made halted halted_after comes goes = absurd comes
-
-halts_said : (then_of : Then) (said : Next) (hand rest asked reply unsent : List ℕ) (made middle after : List Answer)
-    (halted halted_then halted_after : Bool) → HaltsAt then_of halted halted_then → Comes then_of hand rest asked reply unsent made
-    → Finishes then_of said middle after halted_then halted_after → Halts said halted halted_after
-halts_said then_is.GoOn said hand rest asked reply unsent made middle after halted halted_then halted_after halts comes finishes =
-    subst (λ w. Halts w halted halted_after) (sym finishes.0) (finishes.2 ∙ halts)
-halts_said then_is.Stop said hand rest asked reply unsent made middle after halted halted_then halted_after halts comes finishes =
-    subst (λ w. Halts w halted halted_after) (sym finishes.0) (finishes.2 ∙ halts)
-halts_said (then_is.End how) said hand rest asked reply unsent made middle after halted halted_then halted_after halts comes (inl byes) =
-    subst (λ w. Halts w halted halted_after) (sym byes.0) (halts_end how hand asked reply unsent made halted halted_after comes (byes.2 ∙ halts))
-halts_said (then_is.End how) said hand rest asked reply unsent made middle after halted halted_then halted_after halts comes (inr stops) =
-    subst (λ w. Halts w halted halted_after) (sym stops.0) stops.2
-
-pub halts_is : (what : Found) (all : Bool) (response : Option (List ℕ)) (planned then_of : Then) (said : Next)
-    (asked asked_after rest rest_after replied replied_after : List ℕ) (first middle after : List Answer) (put put_after : Option (List ℕ))
-    (faults faults_after : ℕ) (halted halted_then halted_after : Bool)
-    → Finds what asked asked_after rest rest_after → all ≡ (length rest_after == 0)
-    → HasMadeAlso first middle (λ made. Responds what all response planned made halted halted_then)
-    → Sends response planned then_of replied replied_after put put_after faults faults_after
-    → Finishes then_of said middle after halted_then halted_after
-    → Halts said halted halted_after
-halts_is what all response planned then_of said asked asked_after rest rest_after replied replied_after first middle after put put_after faults faults_after halted halted_then halted_after finds is_all responds sends finishes =
-    let hand : List ℕ = rest ++ finds.0 in
-    let sent = sent_is what all response planned then_of hand rest_after asked_after replied replied_after put put_after faults faults_after halted halted_then responds.0 finds.2 is_all responds.2 sends in
-    halts_said then_of said hand rest_after asked_after sent.reply sent.unsent responds.0 middle after halted halted_then halted_after sent.halts sent.comes finishes
+pub halts_is : (what : Found) (then_of : Then) (stands : State) (asked asked_after rest rest_after replied replied_after : List ℕ)
+    (put put_after : Option (List ℕ)) (first middle after : List Answer) (halted halted_then halted_after : Bool) (counts : Faults)
+    → Turn what then_of asked asked_after rest rest_after replied replied_after put put_after first middle halted halted_then counts
+    → Finishes then_of stands middle after halted_then halted_after
+    → Halts (said_at stands) halted halted_after
+halts_is what then_of stands asked asked_after rest rest_after replied replied_after put put_after first middle after halted halted_then halted_after counts turn finishes =
+    (said_is then_of stands (rest ++ turn.more) rest_after asked_after replied replied_after put put_after first middle after
+    turn.made halted halted_then halted_after counts turn.calls turn.comes finishes).halts
 
 -- ---- want of memory
 
-more_none : (put put_after : Option (List ℕ)) → put_after ≡ put → Gains put put_after []
-more_none None put_after same = same
-more_none (Some before) None same = absurd (cc same)
-more_none (Some before) (Some after) same = let e : after ≡ before = cc in e ∙ sym (append-nil before)
-
-pub breaks_none : (replied replied_after : List ℕ) (answers answers_after : List Answer) (put put_after : Option (List ℕ))
-    → replied_after ≡ replied → HasMade answers answers_after → put_after ≡ put
-    → Breaks replied replied_after answers answers_after put put_after
-breaks_none replied replied_after answers answers_after put put_after replies made same = record {
-  calls = made;
-  replies = ([], replies ∙ sym (append-nil replied), ([], more_none put put_after same));
+-- before anything was made
+pub breaks_taking : (asked asked_after rest replied replied_after : List ℕ) (answers answers_after : List Answer) (left left_after gave gave_after put put_after : Option (List ℕ))
+    (most : Option ℕ) (counts : Faults) → TakesPieces asked asked_after rest left left_after gave gave_after most
+    → answers_after ≡ answers → replied_after ≡ replied → put_after ≡ put
+    → Breaks asked asked_after rest replied replied_after answers answers_after put put_after counts
+breaks_taking asked asked_after rest replied replied_after answers answers_after left left_after gave gave_after put put_after most counts takes calls replies same = record {
+  more = concat takes.pieces;
+  made = [];
+  unsent = [];
+  takes = takes.grows;
+  calls = calls ∙ sym (append-nil answers);
+  replies = replies;
+  puts = part_none put put_after same;
+  place = inl (refl, refl);
 }
 
-puts_more : (put put_after : Option (List ℕ)) (reply unsent : List ℕ) → PutsWith put put_after reply unsent → PutsMore put put_after reply
-puts_more None put_after reply unsent puts = ([], puts)
-puts_more (Some before) None reply unsent puts = absurd puts
-puts_more (Some before) (Some after) reply unsent puts = (take puts.0 unsent, puts.2)
+breaks_on : (what : Found) (hand rest asked : List ℕ) (made : List Answer) (counts : Faults) → IsFound what hand rest asked
+    → BreaksOn what made → BreaksAt hand asked [] made counts
+breaks_on (found.Request request) hand rest asked made counts is_found breaks = inr (inl (request, rest, is_found, breaks, refl))
+breaks_on (found.Bad rule) hand rest asked made counts is_found breaks = inl (breaks, refl)
+breaks_on found.End hand rest asked made counts is_found breaks = inl (breaks, refl)
+breaks_on found.Fault hand rest asked made counts is_found breaks = inl (breaks, refl)
+breaks_on found.Limit hand rest asked made counts is_found breaks = inl (breaks, refl)
 
-pub breaks_sent : (what : Found) (all : Bool) (response : Option (List ℕ)) (planned then_of : Then)
-    (asked asked_after rest rest_after replied replied_after : List ℕ) (first middle after : List Answer) (put put_then put_now put_after : Option (List ℕ))
-    (faults faults_after : ℕ) (halted halted_then : Bool)
-    → Finds what asked asked_after rest rest_after → all ≡ (length rest_after == 0)
-    → HasMadeAlso first middle (λ made. Responds what all response planned made halted halted_then)
-    → put_then ≡ put → Sends response planned then_of replied replied_after put_then put_now faults faults_after → put_after ≡ put_now
-    → after ≡ middle → Breaks replied replied_after first after put put_after
-breaks_sent what all response planned then_of asked asked_after rest rest_after replied replied_after first middle after put put_then put_now put_after faults faults_after halted halted_then finds is_all responds first_puts sends last_puts same =
-    let hand : List ℕ = rest ++ finds.0 in
-    let sends_it = subst (λ p. Sends response planned then_of replied replied_after p put_after faults faults_after) first_puts
-    (subst (λ q. Sends response planned then_of replied replied_after put_then q faults faults_after) (sym last_puts) sends) in
-    let sent = sent_is what all response planned then_of hand rest_after asked_after replied replied_after put put_after faults faults_after halted halted_then responds.0 finds.2 is_all responds.2 sends_it in
+-- before the reply was there
+pub breaks_making : (what : Found) (asked asked_after rest rest_after replied replied_after : List ℕ) (answers answers_after : List Answer)
+    (put put_after : Option (List ℕ)) (counts : Faults) → Finds what asked asked_after rest rest_after
+    → HasMadeAlso answers answers_after (λ made. BreaksOn what made) → replied_after ≡ replied → put_after ≡ put
+    → Breaks asked asked_after rest replied replied_after answers answers_after put put_after counts
+breaks_making what asked asked_after rest rest_after replied replied_after answers answers_after put put_after counts finds breaks replies same = record {
+  more = finds.0;
+  made = breaks.0;
+  unsent = [];
+  takes = finds.1;
+  calls = breaks.1;
+  replies = replies;
+  puts = part_none put put_after same;
+  place = breaks_on what (rest ++ finds.0) rest_after asked_after breaks.0 counts finds.2 breaks.2;
+}
+
+responds_breaks : (what : Found) (all : Bool) (response : Option (List ℕ)) (planned : Then) (made : List Answer) (halted halted_after : Bool)
+    → Responds what all response planned made halted halted_after → BreaksOn what made
+responds_breaks (found.Request request) all response planned made halted halted_after (inl serves) = inr (serves.0, serves.3)
+responds_breaks (found.Request request) all response planned made halted halted_after (inr stops) = inl stops.2
+responds_breaks (found.Bad rule) all response planned made halted halted_after responds = responds.2
+responds_breaks found.End all response planned made halted halted_after responds = responds.2
+responds_breaks found.Fault all response planned made halted halted_after responds = responds.2
+responds_breaks found.Limit all response planned made halted halted_after responds = responds.2
+
+-- before the reply was put
+pub breaks_sending : (what : Found) (all : Bool) (response : Option (List ℕ)) (planned : Then)
+    (asked asked_after rest rest_after replied replied_after : List ℕ) (answers answers_after : List Answer)
+    (put put_after : Option (List ℕ)) (halted halted_after : Bool) (counts : Faults) → Finds what asked asked_after rest rest_after
+    → HasMadeAlso answers answers_after (λ made. Responds what all response planned made halted halted_after)
+    → replied_after ≡ replied → put_after ≡ put
+    → Breaks asked asked_after rest replied replied_after answers answers_after put put_after counts
+breaks_sending what all response planned asked asked_after rest rest_after replied replied_after answers answers_after put put_after halted halted_after counts finds responds replies same =
+    breaks_making what asked asked_after rest rest_after replied replied_after answers answers_after put put_after counts finds
+    (responds.0, responds.1, responds_breaks what all response planned responds.0 halted halted_after responds.2) replies same
+
+end_breaks : (then_of : Then) (hand rest asked replied replied_after : List ℕ) (put put_after : Option (List ℕ)) (made : List Answer)
+    (halted halted_after : Bool) (counts : Faults)
+    → Comes then_of hand rest asked replied replied_after put put_after made halted halted_after counts → IsEnd then_of
+    → (how : SessionEnd) × (unsent : List ℕ) × ComesToEnd how hand rest asked unsent made counts × (replied_after ≡ replied)
+    × GainsPart put put_after unsent × (halted_after ≡ halted)
+end_breaks (then_is.End how) hand rest asked replied replied_after put put_after made halted halted_after counts comes is = (how, comes.0, comes.1, comes.2, comes.3, comes.4)
+end_breaks then_is.GoOn hand rest asked replied replied_after put put_after made halted halted_after counts comes is = absurd is
+end_breaks (then_is.Leave how) hand rest asked replied replied_after put put_after made halted halted_after counts comes is = absurd is
+end_breaks then_is.Stop hand rest asked replied replied_after put put_after made halted halted_after counts comes is = absurd is
+
+-- at the Bye
+pub breaks_ending : (what : Found) (then_of : Then) (asked asked_after rest rest_after replied replied_after : List ℕ)
+    (put put_after : Option (List ℕ)) (first middle after : List Answer) (halted halted_then : Bool) (counts : Faults)
+    → Turn what then_of asked asked_after rest rest_after replied replied_after put put_after first middle halted halted_then counts
+    → IsEnd then_of → after ≡ middle
+    → Breaks asked asked_after rest replied replied_after first after put put_after counts
+breaks_ending what then_of asked asked_after rest rest_after replied replied_after put put_after first middle after halted halted_then counts turn is same =
+    let breaks = end_breaks then_of (rest ++ turn.more) rest_after asked_after replied replied_after put put_after turn.made halted halted_then counts turn.comes is in
     record {
-      calls = (responds.0, same ∙ responds.1);
-      replies = (sent.reply, sent.replies, puts_more put put_after sent.reply sent.unsent sent.puts);
+      more = turn.more;
+      made = turn.made;
+      unsent = breaks.1;
+      takes = turn.takes;
+      calls = same ∙ turn.calls;
+      replies = breaks.3;
+      puts = breaks.4;
+      place = inr (inr (breaks.0, rest_after, breaks.2));
     }

@@ -164,7 +164,7 @@ none_gains : (b c : Option (List ℕ)) (ys : List ℕ) → b ≡ None → Gains 
 none_gains None c ys same second = second
 none_gains (Some b) c ys same second = absurd (cc same)
 
-gains_join : (a b c : Option (List ℕ)) (xs ys : List ℕ) → Gains a b xs → Gains b c ys → Gains a c (xs ++ ys)
+pub gains_join : (a b c : Option (List ℕ)) (xs ys : List ℕ) → Gains a b xs → Gains b c ys → Gains a c (xs ++ ys)
 gains_join None b c xs ys first second = none_gains b c ys first second
 gains_join (Some a) None c xs ys first second = absurd first
 gains_join (Some a) (Some b) None xs ys first second = absurd second

@@ -1,56 +1,86 @@
--- Whole sessions: steps that follow one another, and what they come to.
-use Rattle.std.specs.Prelude.{◌≡◌, ℕ, List, [], ◌∷◌, ◌++◌, Option}
+-- Whole sessions: turns that follow one another, and what they come to.
+use Rattle.std.specs.Prelude.{◌≡◌, ◌⊎◌, ℕ, true, false, List, [], ◌∷◌, ◌++◌, Option}
+use Rattle.std.specs.List.{AllByRecursion}
+use Rattle.chv_defs.specs.declared.rule.Rule.{Rule}
+use Rattle.chv_defs.specs.declared.request.Request.{Request}
 use Rattle.chv_defs.specs.declared.session.SessionEnd.{SessionEnd}
 use Rattle.chv_defs.specs.declared.session.SessionEnd.TheVariants as end
 use Rattle.chv_defs.specs.Desks.{Answer}
-use Rattle.chv_defs.specs.Outside.{Gains}
-use Rattle.chv_defs.specs.SessionBytes.{IsSessionLog}
-use Rattle.chv_session.specs.declared.next.Next.{Next}
+use Rattle.chv_defs.specs.Outside.{Gains, GainsPart}
+use Rattle.chv_defs.specs.Requests.{BeginsWith}
+use Rattle.chv_defs.specs.Routes.{refusal_bytes}
+use Rattle.chv_defs.specs.SessionBytes.{Answered, IsBad, IsOpen, IsSessionLog}
 use Rattle.chv_session.specs.declared.next.Next.TheVariants as next
-use Rattle.chv_session.specs.Talk.{Talk, new_talk}
-use Rattle.chv_session.specs.Step.{ComesTo, PutsMore}
+use Rattle.chv_session.specs.Talk.{new_talk}
+use Rattle.chv_session.specs.Moment.{Moment}
+use Rattle.chv_session.specs.Response.{is_bye}
+use Rattle.chv_session.specs.Step.{ComesTo, GetsLost}
 
--- A session, the calls that its caller has made, and what was put into its connection, where that is told.
-pub record Moment : Type 0 where
-  pub talk : Talk
-  pub answers : List Answer
-  pub put : Option (List ℕ)
+-- In a turn that answers a request or a refusal, none of the session's calls is its Bye.
+abbrev pub AnswersWithoutBye : Type 0
+AnswersWithoutBye =
+    (before after : Moment) → ComesTo next.Answered before after
+    → (made : List Answer) × (after.answers ≡ before.answers ++ made)
+    × AllByRecursion (λ (answer : Answer). is_bye answer.call ≡ false) made
 
--- one call of `next`
-abbrev pub Goes : Next → Moment → Moment → Type 0
-Goes what before after =
-    ComesTo before.talk.state what before.talk after.talk before.answers after.answers before.put after.put
-
--- Calls of `next` that follow one another, with what is between them; each of them answered a request.
+-- Calls of `next` that follow one another, with what is between them; each of them answered a request or a refusal.
 abbrev pub Runs : Moment → List Moment → Moment → Type 0
 Runs first [] last = first ≡ last
-Runs first (moment ∷ moments) last = Goes next.Answered first moment × Runs moment moments last
+Runs first (moment ∷ moments) last = ComesTo next.Answered first moment × Runs moment moments last
 
--- From a new session on, any number of answered requests and then an end make what a session leaves: the bytes that it
+-- From a new session on, any number of answered turns and then an end make what a session leaves: the bytes that it
 -- asked, its replies, and all calls that its caller made meanwhile, in whatever pieces the bytes came.
 abbrev pub EndsAsSession : Type 0
 EndsAsSession =
     (first last after : Moment) (moments : List Moment) (how : SessionEnd) → first.talk ≡ new_talk → Runs first moments last
-    → Goes (next.Ended how) last after
+    → ComesTo (next.Ended how) last after
     → (made : List Answer) × (after.answers ≡ first.answers ++ made) × IsSessionLog how after.talk.asked after.talk.replied made
 
--- A session that is left between two requests is one that the run stopped.
+-- A session that is left behind any number of answered turns is one that the run stopped.
 abbrev pub IsSessionWhereLeft : Type 0
 IsSessionWhereLeft =
     (first last : Moment) (moments : List Moment) → first.talk ≡ new_talk → Runs first moments last
     → (made : List Answer) × (last.answers ≡ first.answers ++ made)
     × IsSessionLog end.Stopped last.talk.asked last.talk.replied made
 
--- What was put at an end besides the replies of the session: nothing, or at a Fault, and where the run stopped, perhaps a
--- part of one more.
-abbrev pub PutsAt : SessionEnd → Option (List ℕ) → Option (List ℕ) → List ℕ → Type 0
-PutsAt end.Fault before after replied = PutsMore before after replied
-PutsAt end.Stopped before after replied = PutsMore before after replied
-PutsAt _ before after replied = Gains before after replied
+-- A session that met want of memory, behind any number of answered turns, is one that the run stopped.
+abbrev pub IsSessionWhereLost : Type 0
+IsSessionWhereLost =
+    (first last after : Moment) (moments : List Moment) → first.talk ≡ new_talk → Runs first moments last → GetsLost last after
+    → (made : List Answer) × (after.answers ≡ first.answers ++ made)
+    × IsSessionLog end.Stopped after.talk.asked after.talk.replied made
 
--- Between two requests the replies of the session, and no more, were put into the connection, and so they were at an end.
+-- These bytes are the reply to what is in front: to a request, or to bytes that a rule refuses.
+abbrev pub IsReplyTo : List ℕ → List ℕ → Type 0
+IsReplyTo rest reply =
+    ((request : Request) × (behind : List ℕ) × (calls : List Answer) × BeginsWith rest request behind × Answered request calls reply)
+    ⊎ ((rule : Rule) × IsBad rest rule × (reply ≡ refusal_bytes rule true))
+
+-- What was put is the replies of the session; or what it asked is requests that were answered and a rest, and behind the
+-- replies to these a first part was put of the one reply to what is in front of the rest.
+abbrev pub PutsPart : Option (List ℕ) → Option (List ℕ) → List ℕ → List ℕ → Type 0
+PutsPart before after asked replied =
+    Gains before after replied
+    ⊎ ((calls : List Answer) × (rest : List ℕ) × (unsent : List ℕ) × (between : Option (List ℕ))
+    × IsOpen asked replied calls rest × IsReplyTo rest unsent × Gains before between replied × GainsPart between after unsent)
+
+-- What was put at an end: the replies of the session; and at a Fault, and where the run stopped, perhaps a part of one
+-- more.
+abbrev pub PutsAt : SessionEnd → Option (List ℕ) → Option (List ℕ) → List ℕ → List ℕ → Type 0
+PutsAt end.Fault before after asked replied = PutsPart before after asked replied
+PutsAt end.Stopped before after asked replied = PutsPart before after asked replied
+PutsAt _ before after asked replied = Gains before after replied
+
+-- Behind any number of answered turns the replies of the session, and no more, were put into the connection, and so they
+-- were at an end.
 abbrev pub PutsItsReplies : Type 0
 PutsItsReplies =
     (first last after : Moment) (moments : List Moment) (how : SessionEnd) → first.talk ≡ new_talk → Runs first moments last
-    → Goes (next.Ended how) last after
-    → Gains first.put last.put last.talk.replied × PutsAt how first.put after.put after.talk.replied
+    → ComesTo (next.Ended how) last after
+    → Gains first.put last.put last.talk.replied × PutsAt how first.put after.put after.talk.asked after.talk.replied
+
+-- And so they were where the session met want of memory, perhaps with a part of one more.
+abbrev pub PutsItsRepliesWhereLost : Type 0
+PutsItsRepliesWhereLost =
+    (first last after : Moment) (moments : List Moment) → first.talk ≡ new_talk → Runs first moments last → GetsLost last after
+    → PutsPart first.put after.put after.talk.asked after.talk.replied

@@ -1,4 +1,5 @@
 pub mod Talk
+pub mod Moment
 pub mod Taking
 pub mod Found
 pub mod Response

@@ -1,5 +1,5 @@
 -- How a session responds to what it found, and what it does then.
-use Rattle.std.specs.Prelude.{◌≡◌, ◌⊎◌, ℕ, Bool, true, false, List, [], ◌∷◌, ◌++◌, Option, None, Some, Ok}
+use Rattle.std.specs.Prelude.{◌≡◌, ◌⊎◌, ⊤, ℕ, Bool, true, false, List, [], ◌∷◌, ◌++◌, Option, None, Some, Ok}
 use Rattle.chv_defs.specs.declared.request.Request.{Request}
 use Rattle.chv_defs.specs.declared.control.ControlCall.{ControlCall}
 use Rattle.chv_defs.specs.declared.control.ControlCall.TheVariants as call
@@ -13,12 +13,8 @@ use Rattle.chv_session.specs.declared.fill.Found.{Found}
 use Rattle.chv_session.specs.declared.fill.Found.TheVariants as found
 use Rattle.chv_session.specs.declared.respond.Then.{Then}
 use Rattle.chv_session.specs.declared.respond.Then.TheVariants as then_is
-use Rattle.chv_session.specs.declared.next.Next.{Next}
-use Rattle.chv_session.specs.declared.next.Next.TheVariants as next
-
--- Calls were made, behind those that were made before.
-abbrev pub HasMade : List Answer → List Answer → Type 0
-HasMade before after = (made : List Answer) × (after ≡ before ++ made)
+use Rattle.chv_session.specs.declared.state.State.{State}
+use Rattle.chv_session.specs.declared.state.State.TheVariants as state
 
 -- Calls were made of which this holds.
 abbrev pub HasMadeAlso : List Answer → List Answer → (List Answer → Type 0) → Type 0
@@ -29,9 +25,14 @@ abbrev pub StopsIn : Request → List Answer → Type 0
 StopsIn request made =
     (made ≡ []) ⊎ ((c : ControlCall) × (call_of_request request ≡ Ok c) × Holds c made)
 
--- what comes behind the reply to a request: the end, where that is the last one
+-- Memory was wanting in a request, before its reply was put: before its call was made, before the Settle of a call that
+-- was answered Holding, or behind all its calls.
+abbrev pub BreaksIn : Request → List Answer → Type 0
+BreaksIn request made = StopsIn request made ⊎ ((reply : List ℕ) × Answered request made reply)
+
+-- what comes behind the reply to a request: the session leaves, where that is the last one
 abbrev pub then_after : Bool → Then
-then_after true = then_is.End end.Closed
+then_after true = then_is.Leave end.Closed
 then_after false = then_is.GoOn
 
 -- A request is answered, or the run stopped in it, as the desk tells before and after.
@@ -50,13 +51,18 @@ end_at false = end.Cut
 abbrev pub Responds : Found → Bool → Option (List ℕ) → Then → List Answer → Bool → Bool → Type 0
 Responds (found.Request request) all reply after made halted halted_after = Serves request reply after made halted halted_after
 Responds (found.Bad rule) all reply after made halted halted_after =
-    (reply ≡ Some (refusal_bytes rule true)) × (after ≡ then_is.End end.Bad) × (made ≡ []) × (halted_after ≡ halted)
+    (reply ≡ Some (refusal_bytes rule true)) × (after ≡ then_is.Leave end.Bad) × (made ≡ []) × (halted_after ≡ halted)
 Responds found.End all reply after made halted halted_after =
     (reply ≡ None) × (after ≡ then_is.End (end_at all)) × (made ≡ []) × (halted_after ≡ halted)
 Responds found.Fault all reply after made halted halted_after =
     (reply ≡ None) × (after ≡ then_is.End end.Fault) × (made ≡ []) × (halted_after ≡ halted)
 Responds found.Limit all reply after made halted halted_after =
     (reply ≡ None) × (after ≡ then_is.End end.Limit) × (made ≡ []) × (halted_after ≡ halted)
+
+-- The calls that were made of what was found, where memory was wanting before a reply was there.
+abbrev pub BreaksOn : Found → List Answer → Type 0
+BreaksOn (found.Request request) made = BreaksIn request made
+BreaksOn _ made = made ≡ []
 
 -- A reply was put and kept, and what comes then stays; or the connection failed, a first part was put and none of it
 -- kept, and the end is Fault.
@@ -67,11 +73,28 @@ Sends (Some bytes) planned after replied replied_after put put_after faults faul
     ((after ≡ planned) × (replied_after ≡ replied ++ bytes) × Gains put put_after bytes)
     ⊎ ((after ≡ then_is.End end.Fault) × (replied_after ≡ replied) × GainsPart put put_after bytes × Rose faults faults_after)
 
--- What a session is told at last. An end is made known by a Bye, which is answered, or the run stopped.
-abbrev pub Finishes : Then → Next → List Answer → List Answer → Bool → Bool → Type 0
-Finishes then_is.GoOn what before after halted halted_after = (what ≡ next.Answered) × (after ≡ before) × (halted_after ≡ halted)
-Finishes then_is.Stop what before after halted halted_after =
-    (what ≡ next.Ended end.Stopped) × (after ≡ before) × (halted_after ≡ halted)
-Finishes (then_is.End how) what before after halted halted_after =
-    ((what ≡ next.Ended how) × ((bye : Answer) × (bye.call ≡ call.Bye) × (after ≡ before ++ bye ∷ [])) × (halted_after ≡ halted))
-    ⊎ ((what ≡ next.Ended end.Stopped) × (after ≡ before) × (halted_after ≡ true))
+-- whether a call is a Bye
+abbrev pub is_bye : ControlCall → Bool
+is_bye call.Bye = true
+is_bye _ = false
+
+-- The Bye of an end is answered; or the run stopped there, and the end is Stopped, as the desk tells before and after.
+abbrev pub Leaves : SessionEnd → SessionEnd → List Answer → List Answer → Bool → Bool → Type 0
+Leaves how came before after halted halted_after =
+    ((bye : Answer) × (came ≡ how) × (bye.call ≡ call.Bye) × (after ≡ before ++ bye ∷ []) × (halted_after ≡ halted))
+    ⊎ ((came ≡ end.Stopped) × (after ≡ before) × (halted_after ≡ true))
+
+-- Where a session stands at last. An end is made known by a Bye; a session that leaves makes it later.
+abbrev pub Finishes : Then → State → List Answer → List Answer → Bool → Bool → Type 0
+Finishes then_is.GoOn stands before after halted halted_after = (stands ≡ state.Open) × (after ≡ before) × (halted_after ≡ halted)
+Finishes (then_is.Leave how) stands before after halted halted_after =
+    (stands ≡ state.Leaving how) × (after ≡ before) × (halted_after ≡ halted)
+Finishes then_is.Stop stands before after halted halted_after =
+    (stands ≡ state.Ended end.Stopped) × (after ≡ before) × (halted_after ≡ halted)
+Finishes (then_is.End how) stands before after halted halted_after =
+    (came : SessionEnd) × (stands ≡ state.Ended came) × Leaves how came before after halted halted_after
+
+-- an end is made known by a Bye
+abbrev pub IsEnd : Then → Type 0
+IsEnd (then_is.End how) = ⊤
+IsEnd _ = ⊥

@@ -1,12 +1,12 @@
 -- What one call of `next` brings about.
-use Rattle.std.specs.Prelude.{◌≡◌, ◌≢◌, ◌≤◌, ◌<◌, ◌⊎◌, ⊤, ℕ, Bool, true, false, List, [], ◌∷◌, ◌++◌, length, take, Option, None, Some}
+use Rattle.std.specs.Prelude.{◌≡◌, ◌≢◌, ◌<◌, ◌⊎◌, ⊤, ℕ, Bool, true, false, List, [], ◌∷◌, ◌++◌, length, Option}
 use Rattle.chv_defs.specs.declared.rule.Rule.{Rule}
 use Rattle.chv_defs.specs.declared.request.Request.{Request}
 use Rattle.chv_defs.specs.declared.control.ControlCall.TheVariants as call
 use Rattle.chv_defs.specs.declared.session.SessionEnd.{SessionEnd}
 use Rattle.chv_defs.specs.declared.session.SessionEnd.TheVariants as end
 use Rattle.chv_defs.specs.Desks.{Answer, is_held}
-use Rattle.chv_defs.specs.Outside.{Gains}
+use Rattle.chv_defs.specs.Outside.{Rose, Gains, GainsPart}
 use Rattle.chv_defs.specs.Requests.{BeginsWith, IsShort}
 use Rattle.chv_defs.specs.Routes.{refusal_bytes}
 use Rattle.chv_defs.specs.SessionBytes.{Answered, IsBad, session_limit}
@@ -14,62 +14,94 @@ use Rattle.chv_session.specs.declared.next.Next.{Next}
 use Rattle.chv_session.specs.declared.next.Next.TheVariants as next
 use Rattle.chv_session.specs.declared.state.State.{State}
 use Rattle.chv_session.specs.declared.state.State.TheVariants as state
-use Rattle.chv_session.specs.Talk.{Talk}
-use Rattle.chv_session.specs.Response.{StopsIn, HasMade}
+use Rattle.chv_session.specs.Moment.{Moment, Faults, faults}
+use Rattle.chv_session.specs.Response.{StopsIn, BreaksIn, Leaves}
 
--- ---- what is put
+-- ---- what is said, and where a session stands then
 
--- A reply was put, and of what is unsent a first part, perhaps none.
-abbrev pub PutsWith : Option (List ℕ) → Option (List ℕ) → List ℕ → List ℕ → Type 0
-PutsWith None after reply unsent = after ≡ None
-PutsWith (Some before) None reply unsent = ⊥
-PutsWith (Some before) (Some after) reply unsent = (n : ℕ) × (n ≤ length unsent) × (after ≡ before ++ (reply ++ take n unsent))
+-- what a call says that left the session there
+abbrev pub said_at : State → Next
+said_at state.Open = next.Answered
+said_at (state.Leaving how) = next.Answered
+said_at (state.Ended how) = next.Ended how
+said_at state.Lost = next.Ended end.Stopped
 
--- What was put begins with a reply.
-abbrev pub PutsMore : Option (List ℕ) → Option (List ℕ) → List ℕ → Type 0
-PutsMore before after reply = (more : List ℕ) × Gains before after (reply ++ more)
+-- where a session stands that answered a request: behind a last one it has its Bye to make
+abbrev pub state_behind : Bool → State
+state_behind true = state.Leaving end.Closed
+state_behind false = state.Open
+
+-- whether a session has ended or is lost, so that it does nothing more
+abbrev pub is_over : State → Bool
+is_over state.Open = false
+is_over (state.Leaving how) = false
+is_over (state.Ended how) = true
+is_over state.Lost = true
+
+-- ---- an answer
+
+-- Of the bytes at hand the request in front was answered, and the rest stands behind it; or a rule refused them, and they
+-- are the rest. These are the calls and the reply, and the session stands there then.
+abbrev pub Answers : State → List ℕ → List ℕ → List ℕ → List Answer → Type 0
+Answers stands hand rest reply made =
+    ((request : Request) × BeginsWith hand request rest × Answered request made reply × (stands ≡ state_behind request.last))
+    ⊎ ((rule : Rule) × IsBad hand rule × (rest ≡ hand) × (made ≡ []) × (reply ≡ refusal_bytes rule true)
+    × (stands ≡ state.Leaving end.Bad))
+
+-- ---- an end without an answer
+
+-- How a session ends that answers nothing in the call: by the bytes at hand and the rest of them, all that were asked,
+-- the reply of which not all could be put, the calls before the Bye, and the counts of faults. At a Fault a read failed
+-- where neither a request nor a refusal was at hand, and else the write of the reply.
+abbrev pub ComesToEnd : SessionEnd → List ℕ → List ℕ → List ℕ → List ℕ → List Answer → Faults → Type 0
+ComesToEnd end.Ended hand rest asked unsent calls counts =
+    (hand ≡ []) × (rest ≡ []) × (length asked < session_limit) × (unsent ≡ []) × (calls ≡ [])
+ComesToEnd end.Cut hand rest asked unsent calls counts =
+    IsShort hand × (hand ≢ []) × (rest ≡ hand) × (length asked < session_limit) × (unsent ≡ []) × (calls ≡ [])
+ComesToEnd end.Fault hand rest asked unsent calls counts =
+    (IsShort hand × (rest ≡ hand) × (length asked < session_limit) × (unsent ≡ []) × (calls ≡ []) × Rose counts.reads counts.reads_after)
+    ⊎ ((rule : Rule) × IsBad hand rule × (rest ≡ hand) × (unsent ≡ refusal_bytes rule true) × (calls ≡ [])
+    × Rose counts.writes counts.writes_after)
+    ⊎ ((request : Request) × BeginsWith hand request rest × Answered request calls unsent × Rose counts.writes counts.writes_after)
+ComesToEnd end.Limit hand rest asked unsent calls counts =
+    IsShort hand × (rest ≡ hand) × (length asked ≡ session_limit) × (unsent ≡ []) × (calls ≡ [])
+ComesToEnd end.Bad hand rest asked unsent calls counts = ⊥
+ComesToEnd end.Closed hand rest asked unsent calls counts = ⊥
+ComesToEnd end.Stopped hand rest asked unsent calls counts = ⊥
+
+-- The run stopped in a request, or at the Bye of another end.
+abbrev pub Stops : List ℕ → List ℕ → List ℕ → List ℕ → List Answer → Faults → Type 0
+Stops hand rest asked unsent made counts =
+    ((request : Request) × BeginsWith hand request rest × StopsIn request made × (unsent ≡ []))
+    ⊎ ((how : SessionEnd) × ComesToEnd how hand rest asked unsent made counts)
+
+-- An end with its calls: one Bye is the last of them, and there is none where the run stopped.
+abbrev pub EndsBy : SessionEnd → List ℕ → List ℕ → List ℕ → List ℕ → List Answer → Faults → Type 0
+EndsBy end.Stopped hand rest asked unsent made counts = Stops hand rest asked unsent made counts
+EndsBy how hand rest asked unsent made counts =
+    (calls : List Answer) × (bye : Answer) × ComesToEnd how hand rest asked unsent calls counts × (bye.call ≡ call.Bye)
+    × (made ≡ calls ++ bye ∷ [])
 
 -- ---- the outcome
 
--- The calls before the Bye, the reply that was put and the reply that was not, at each end but Stopped: with the bytes at
--- hand, and all that were asked.
-abbrev pub ComesToEnd : SessionEnd → List ℕ → List ℕ → List ℕ → List ℕ → List Answer → Type 0
-ComesToEnd end.Ended hand asked reply unsent calls =
-    (hand ≡ []) × (length asked < session_limit) × (reply ≡ []) × (unsent ≡ []) × (calls ≡ [])
-ComesToEnd end.Cut hand asked reply unsent calls =
-    IsShort hand × (hand ≢ []) × (length asked < session_limit) × (reply ≡ []) × (unsent ≡ []) × (calls ≡ [])
-ComesToEnd end.Bad hand asked reply unsent calls =
-    (rule : Rule) × IsBad hand rule × (reply ≡ refusal_bytes rule true) × (unsent ≡ []) × (calls ≡ [])
-ComesToEnd end.Closed hand asked reply unsent calls =
-    (request : Request) × (behind : List ℕ) × BeginsWith hand request behind × (request.last ≡ true)
-    × Answered request calls reply × (unsent ≡ [])
-ComesToEnd end.Fault hand asked reply unsent calls =
-    (reply ≡ [])
-    × ((IsShort hand × (length asked < session_limit) × (unsent ≡ []) × (calls ≡ []))
-    ⊎ ((rule : Rule) × IsBad hand rule × (unsent ≡ refusal_bytes rule true) × (calls ≡ []))
-    ⊎ ((request : Request) × (behind : List ℕ) × BeginsWith hand request behind × Answered request calls unsent))
-ComesToEnd end.Limit hand asked reply unsent calls =
-    IsShort hand × (length asked ≡ session_limit) × (reply ≡ []) × (unsent ≡ []) × (calls ≡ [])
-ComesToEnd end.Stopped hand asked reply unsent calls = ⊥
+-- An answer, whose reply was put whole; or an end, at which no reply was, but perhaps a first part of one.
+abbrev pub Outcome : Next → State → List ℕ → List ℕ → List ℕ → List ℕ → List Answer → Option (List ℕ) → Option (List ℕ) → Faults → Type 0
+Outcome next.Answered stands hand rest asked reply made put put_after counts =
+    Answers stands hand rest reply made × Gains put put_after reply
+Outcome (next.Ended how) stands hand rest asked reply made put put_after counts =
+    (unsent : List ℕ) × (stands ≡ state.Ended how) × (reply ≡ []) × EndsBy how hand rest asked unsent made counts
+    × GainsPart put put_after unsent
 
--- The run stopped in a request, or at the Bye of another end.
-abbrev pub Stops : List ℕ → List ℕ → List ℕ → List ℕ → List Answer → Type 0
-Stops hand asked reply unsent made =
-    ((request : Request) × (behind : List ℕ) × BeginsWith hand request behind × StopsIn request made × (reply ≡ []) × (unsent ≡ []))
-    ⊎ ((how : SessionEnd) × ComesToEnd how hand asked reply unsent made)
-
--- An end with its calls: one Bye is the last of them, and there is none where the run stopped.
-abbrev pub EndsBy : SessionEnd → List ℕ → List ℕ → List ℕ → List ℕ → List Answer → Type 0
-EndsBy end.Stopped hand asked reply unsent made = Stops hand asked reply unsent made
-EndsBy how hand asked reply unsent made =
-    (calls : List Answer) × (bye : Answer) × ComesToEnd how hand asked reply unsent calls × (bye.call ≡ call.Bye)
-    × (made ≡ calls ++ bye ∷ [])
-
--- One request was answered that is not the last, and the rest stands behind it; or the session ended.
-abbrev pub Outcome : Next → List ℕ → List ℕ → List ℕ → List ℕ → List ℕ → List Answer → Type 0
-Outcome next.Answered hand rest asked reply unsent made =
-    (request : Request) × BeginsWith hand request rest × (request.last ≡ false) × Answered request made reply × (unsent ≡ [])
-Outcome (next.Ended how) hand rest asked reply unsent made = EndsBy how hand asked reply unsent made
+-- What an open session did: the bytes that it took, the calls that it made, and the reply that was put, each behind what
+-- was there. No byte was taken behind what it answered.
+pub record Step (what : Next) (stands : State) (asked asked_after rest rest_after replied replied_after : List ℕ) (answers answers_after : List Answer) (put put_after : Option (List ℕ)) (counts : Faults) : Type 0 where
+  pub more : List ℕ
+  pub made : List Answer
+  pub reply : List ℕ
+  pub takes : asked_after ≡ asked ++ more
+  pub calls : answers_after ≡ answers ++ made
+  pub replies : replied_after ≡ replied ++ reply
+  pub outcome : Outcome what stands (rest ++ more) rest_after asked_after reply made put put_after counts
 
 -- The desk tells that the run stopped where the end is Stopped, and else tells what it told before.
 abbrev pub Halts : Next → Bool → Bool → Type 0
@@ -77,47 +109,64 @@ Halts next.Answered before after = after ≡ before
 Halts (next.Ended end.Stopped) before after = after ≡ true
 Halts (next.Ended _) before after = after ≡ before
 
--- Behind an answered request no Settle is owed.
+-- Behind an answer no Settle is owed.
 abbrev pub IsReady : Next → List Answer → Type 0
 IsReady next.Answered answers = is_held answers ≡ false
 IsReady (next.Ended how) answers = ⊤
 
--- What an open session did: the bytes that it took, the calls that it made, the reply that was put, and the reply that was
--- not, each behind what was there. No byte was taken behind what it answered.
-pub record Step (what : Next) (asked asked_after rest rest_after replied replied_after : List ℕ) (answers answers_after : List Answer) (put put_after : Option (List ℕ)) : Type 0 where
+-- ---- want of memory
+
+-- Where memory was wanting: before a call was made and a byte put; in a request, of which the reply was not put; or at
+-- the Bye of an end.
+abbrev pub BreaksAt : List ℕ → List ℕ → List ℕ → List Answer → Faults → Type 0
+BreaksAt hand asked unsent made counts =
+    ((made ≡ []) × (unsent ≡ []))
+    ⊎ ((request : Request) × (behind : List ℕ) × BeginsWith hand request behind × BreaksIn request made × (unsent ≡ []))
+    ⊎ ((how : SessionEnd) × (rest : List ℕ) × ComesToEnd how hand rest asked unsent made counts)
+
+-- What want of memory leaves of what an open session did: no reply is kept, and of one a first part was put, perhaps none.
+pub record Breaks (asked asked_after rest replied replied_after : List ℕ) (answers answers_after : List Answer) (put put_after : Option (List ℕ)) (counts : Faults) : Type 0 where
   pub more : List ℕ
   pub made : List Answer
-  pub reply : List ℕ
   pub unsent : List ℕ
   pub takes : asked_after ≡ asked ++ more
   pub calls : answers_after ≡ answers ++ made
-  pub replies : replied_after ≡ replied ++ reply
-  pub puts : PutsWith put put_after reply unsent
-  pub outcome : Outcome what (rest ++ more) rest_after asked_after reply unsent made
+  pub replies : replied_after ≡ replied
+  pub puts : GainsPart put put_after unsent
+  pub place : BreaksAt (rest ++ more) asked_after unsent made counts
 
--- Want of memory: what was made and put before that stands.
-pub record Breaks (replied replied_after : List ℕ) (answers answers_after : List Answer) (put put_after : Option (List ℕ)) : Type 0 where
-  pub calls : HasMade answers answers_after
-  pub replies : (reply : List ℕ) × (replied_after ≡ replied ++ reply) × PutsMore put put_after reply
+-- ---- a call, by where the session stood
 
--- where a session stands then
-abbrev pub state_after : Next → State
-state_after next.Answered = state.Open
-state_after (next.Ended how) = state.Ended how
+abbrev pub ComesFrom : State → Next → Moment → Moment → Type 0
+ComesFrom state.Open what before after =
+    Step what after.talk.state before.talk.asked after.talk.asked before.talk.rest after.talk.rest before.talk.replied
+    after.talk.replied before.answers after.answers before.put after.put
+    (faults before.reads after.reads before.writes after.writes)
+    × Halts what before.halted after.halted
+ComesFrom (state.Leaving how) what before after =
+    (came : SessionEnd) × (what ≡ next.Ended came) × (after.talk ≡ record before.talk { state = state.Ended came })
+    × Leaves how came before.answers after.answers before.halted after.halted × (after.put ≡ before.put)
+ComesFrom (state.Ended how) what before after = (what ≡ next.Ended how) × (after.talk ≡ before.talk)
+ComesFrom state.Lost what before after = ⊥
 
--- What a call comes to, by where the session stood: an ended one answers its end and is as it was, and a lost one answers
--- want of memory.
-abbrev pub ComesTo : State → Next → Talk → Talk → List Answer → List Answer → Option (List ℕ) → Option (List ℕ) → Type 0
-ComesTo state.Open what old new answers answers_after put put_after =
-    (new.state ≡ state_after what)
-    × Step what old.asked new.asked old.rest new.rest old.replied new.replied answers answers_after put put_after
-ComesTo (state.Ended how) what old new answers answers_after put put_after = (what ≡ next.Ended how) × (new ≡ old)
-ComesTo state.Lost what old new answers answers_after put put_after = ⊥
+-- What a call comes to. An open session answers a request or a refusal, or it ends; one that is leaving makes its Bye,
+-- and takes and puts nothing; an ended one answers its end and is as it was; and a lost one answers want of memory.
+abbrev pub ComesTo : Next → Moment → Moment → Type 0
+ComesTo what before after = ComesFrom before.talk.state what before after
 
--- What want of memory leaves, by where the session stood: an open one is lost, a lost one is as it was, and an ended one
--- meets none.
-abbrev pub GetsLost : State → Talk → Talk → List Answer → List Answer → Option (List ℕ) → Option (List ℕ) → Type 0
-GetsLost state.Open old new answers answers_after put put_after =
-    (new.state ≡ state.Lost) × Breaks old.replied new.replied answers answers_after put put_after
-GetsLost (state.Ended how) old new answers answers_after put put_after = ⊥
-GetsLost state.Lost old new answers answers_after put put_after = new ≡ old
+abbrev pub LosesFrom : State → Moment → Moment → Type 0
+LosesFrom state.Open before after =
+    (after.talk.state ≡ state.Lost)
+    × Breaks before.talk.asked after.talk.asked before.talk.rest before.talk.replied after.talk.replied before.answers
+    after.answers before.put after.put (faults before.reads after.reads before.writes after.writes)
+    × (after.halted ≡ before.halted)
+LosesFrom (state.Leaving how) before after =
+    (after.talk ≡ record before.talk { state = state.Lost }) × (after.answers ≡ before.answers)
+    × (after.halted ≡ before.halted) × (after.put ≡ before.put)
+LosesFrom (state.Ended how) before after = ⊥
+LosesFrom state.Lost before after = after.talk ≡ before.talk
+
+-- What want of memory leaves. An open session is lost, and one that is leaving is, without its Bye; a lost one is as it
+-- was; and an ended one meets none.
+abbrev pub GetsLost : Moment → Moment → Type 0
+GetsLost before after = LosesFrom before.talk.state before after

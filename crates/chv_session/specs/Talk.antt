@@ -6,7 +6,7 @@ use Rattle.chv_session.specs.declared.state.State.{State}
 use Rattle.chv_session.specs.declared.state.State.TheVariants as state
 
 -- The bytes that a session took, those of them that were not answered so far, the replies that were put, and where it
--- stands. The unanswered bytes are told of a session that is open.
+-- stands. Of a lost session the unanswered bytes are not told.
 pub record Talk : Type 0 where
   pub asked : List ℕ
   pub rest : List ℕ
@@ -21,4 +21,5 @@ new_talk = record { asked = []; rest = []; replied = []; state = state.Open }
 abbrev pub end_of : State → SessionEnd
 end_of (state.Ended how) = how
 end_of state.Open = end.Stopped
+end_of (state.Leaving how) = end.Stopped
 end_of state.Lost = end.Stopped

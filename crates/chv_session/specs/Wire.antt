@@ -1,7 +1,6 @@
 -- What a session does to its connection besides taking and putting.
-use Rattle.std.specs.Prelude.{◌≡◌, ◌⊎◌, ⊤, ℕ, Bool, true, List, [], Option, IfSome}
+use Rattle.std.specs.Prelude.{◌≡◌, ⊤, ℕ, Bool, true, List, [], Option, IfSome}
 use Rattle.chv_defs.specs.declared.session.SessionEnd.TheVariants as end
-use Rattle.chv_defs.specs.Outside.{Rose}
 use Rattle.chv_session.specs.declared.next.Next.{Next}
 use Rattle.chv_session.specs.declared.next.Next.TheVariants as next
 
@@ -25,9 +24,3 @@ Drains next.Answered left = ⊤
 Drains (next.Ended end.Ended) left = IfSome left (λ bytes. bytes ≡ [])
 Drains (next.Ended end.Cut) left = IfSome left (λ bytes. bytes ≡ [])
 Drains (next.Ended _) left = ⊤
-
--- The end is Fault only where one of the two counts of faults rose.
-abbrev pub HasFault : Next → ℕ → ℕ → ℕ → ℕ → Type 0
-HasFault next.Answered read read_after written written_after = ⊤
-HasFault (next.Ended end.Fault) read read_after written written_after = Rose read read_after ⊎ Rose written written_after
-HasFault (next.Ended _) read read_after written written_after = ⊤

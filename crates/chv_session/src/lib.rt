@@ -9,7 +9,7 @@ mod send;
 mod session;
 mod state;
 
-pub use laws::{puts_its_replies, steps_make_a_session};
+pub use laws::{answers_without_bye, puts_its_replies, steps_make_a_session};
 pub use next::Next;
 pub use session::Session;
 pub use state::State;

@@ -4,7 +4,7 @@ use chv_defs::SessionEnd;
 /// What one step of a session came to.
 #[derive(Clone, Copy, PartialEq, Eq, Debug)]
 pub enum Next {
-    /// A request was answered, and the session goes on.
+    /// A request was answered, or bytes that a rule refuses. The session is not at its end.
     Answered,
     /// The session has ended so.
     Ended(SessionEnd),

@@ -3,7 +3,7 @@ ghost use Rattle.std.specs.Prelude.{◌≡◌, ◌++◌, true, Some, None, IfOk,
 ghost use Rattle.chv_defs.specs.Machine.{IsSession};
 ghost use Rattle.chv_defs.specs.Desks.{is_session_call, is_holding};
 ghost use Rattle.chv_defs.specs.SessionBytes.{Makes, Holds};
-ghost use Rattle.chv_session.specs.Response.{Serves, Responds, then_after, HasMade, HasMadeAlso};
+ghost use Rattle.chv_session.specs.Response.{Serves, Responds, BreaksIn, BreaksOn, then_after, HasMadeAlso};
 
 use crate::fill::Found;
 use chv_api::{calls_of, refusal_of, reply_of};
@@ -15,7 +15,9 @@ use std::alloc::{AllocError, Global};
 pub(crate) enum Then {
     /// The session goes on.
     GoOn,
-    /// It ends so.
+    /// It makes its Bye at the next call, and ends so.
+    Leave(SessionEnd),
+    /// It makes its Bye now, and ends so.
     End(SessionEnd),
     /// The run has stopped.
     Stop,
@@ -28,7 +30,7 @@ pub(crate) struct Response {
     pub then: Then,
 }
 
-/// A reply to a request. The session ends behind a last one.
+/// A reply to a request. The session leaves behind a last one.
 fn answered(bytes: Bytes, last: bool) -> Response
     ensures reply { result.reply ≡ Some bytes }
     ensures then { result.then ≡ then_after last }
@@ -36,7 +38,7 @@ fn answered(bytes: Bytes, last: bool) -> Response
     Response {
         reply: Some(bytes),
         then: if last {
-            Then::End(SessionEnd::Closed)
+            Then::Leave(SessionEnd::Closed)
         } else {
             Then::GoOn
         },
@@ -73,7 +75,8 @@ fn make<R: Copy, T: Desk<R>>(
     ensures goes_on { IfOk result (λ answer. IfOk answer (λ _. T.stopped desk.new ≡ T.stopped desk.old)) }
     ensures halts { IfOk result (λ answer. OnErr answer (T.stopped desk.new ≡ true)) }
     ensures err_goes_on { OnErr result (T.stopped desk.new ≡ T.stopped desk.old) }
-    ensures err { OnErr result (HasMade (T.answers desk.old) (T.answers desk.new)) }
+    ensures err { OnErr result (HasMadeAlso (T.answers desk.old) (T.answers desk.new)
+        (λ made. (made ≡ []) ⊎ Holds call made)) }
 {
     let reply = match desk.ask(rt, &call)? {
         Ok(reply) => reply,
@@ -99,7 +102,7 @@ fn serve<R: Copy, T: Desk<R>>(
     ensures caller { T.caller desk.new ≡ T.caller desk.old }
     ensures served { IfOk result (λ response. HasMadeAlso (T.answers desk.old) (T.answers desk.new)
         (λ made. Serves request.now response.reply response.then made (T.stopped desk.old) (T.stopped desk.new))) }
-    ensures err { OnErr result (HasMade (T.answers desk.old) (T.answers desk.new)) }
+    ensures err { OnErr result (HasMadeAlso (T.answers desk.old) (T.answers desk.new) (λ made. BreaksIn request.now made)) }
     ensures err_goes_on { OnErr result (T.stopped desk.new ≡ T.stopped desk.old) }
 {
     let call = match calls_of(alloc, request)? {
@@ -129,14 +132,14 @@ pub(crate) fn respond<R: Copy, T: Desk<R>>(
     ensures caller { T.caller desk.new ≡ T.caller desk.old }
     ensures responds { IfOk result (λ response. HasMadeAlso (T.answers desk.old) (T.answers desk.new)
         (λ made. Responds found all response.reply response.then made (T.stopped desk.old) (T.stopped desk.new))) }
-    ensures err { OnErr result (HasMade (T.answers desk.old) (T.answers desk.new)) }
+    ensures err { OnErr result (HasMadeAlso (T.answers desk.old) (T.answers desk.new) (λ made. BreaksOn found made)) }
     ensures err_goes_on { OnErr result (T.stopped desk.new ≡ T.stopped desk.old) }
 {
     match found {
         Found::Request(request) => serve(alloc, rt, desk, &request),
         Found::Bad(rule) => Ok(Response {
             reply: Some(refusal_of(alloc, rule, true)?),
-            then: Then::End(SessionEnd::Bad),
+            then: Then::Leave(SessionEnd::Bad),
         }),
         Found::End if all => Ok(silent(Then::End(SessionEnd::Ended))),
         Found::End => Ok(silent(Then::End(SessionEnd::Cut))),

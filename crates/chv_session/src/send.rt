@@ -1,13 +1,14 @@
 // Puts a reply, and ends a session.
-ghost use Rattle.std.specs.Prelude.{◌≡◌, ◌≤◌, IfOk, OnErr};
+ghost use Rattle.std.specs.Prelude.{◌≡◌, ◌≢◌, ◌≤◌, true, None, IfOk, OnErr};
 ghost use Rattle.chv_defs.specs.Machine.{IsSession};
 ghost use Rattle.chv_defs.specs.Links.{WriteLeaves};
-ghost use Rattle.chv_session.specs.Response.{Sends, Finishes};
+ghost use Rattle.chv_session.specs.Response.{Sends, Leaves, Finishes, IsEnd};
+ghost use Rattle.chv_session.specs.Step.{said_at};
 ghost use Rattle.chv_session.specs.Wire.{Closes, StaysButClosed};
 
 use crate::fill::keep;
-use crate::next::Next;
 use crate::respond::{Response, Then};
+use crate::state::State;
 use chv_defs::{ControlCall, Desk, SessionEnd, Stopped};
 use chv_io::{Failed, Link, write_to};
 use std::alloc::AllocError;
@@ -20,6 +21,7 @@ pub(crate) fn send<K: Link>(
 ) -> Result<Then, AllocError>
     ensures sends { IfOk result (λ after. Sends response.now.reply response.now.then after replied.old.items replied.new.items
         (K.written link.old) (K.written link.new) (K.write_faults link.old) (K.write_faults link.new)) }
+    ensures err_some { OnErr result (response.now.reply ≢ None) }
     ensures err_replied { OnErr result (replied.new.items ≡ replied.old.items) }
     ensures err_written { OnErr result (K.written link.new ≡ K.written link.old) }
     ensures leaves { WriteLeaves (K.left link.old) (K.left link.new) (K.gave link.old) (K.gave link.new)
@@ -41,36 +43,58 @@ pub(crate) fn send<K: Link>(
     }
 }
 
-/// Says how a session goes on. At an end it closes the connection and makes the call Bye.
+/// Ends a session so: closes the connection, and makes the call Bye. Answers the end, which is Stopped where the run
+/// stopped at the Bye.
+pub(crate) fn leave<R: Copy, K: Link, T: Desk<R>>(
+    rt: R,
+    link: &mut K,
+    desk: &mut T,
+    end: SessionEnd,
+) -> Result<SessionEnd, AllocError>
+    requires { IsSession (T.caller desk.old) }
+    ensures caller { T.caller desk.new ≡ T.caller desk.old }
+    ensures leaves { IfOk result (λ came. Leaves end came (T.answers desk.old) (T.answers desk.new)
+        (T.stopped desk.old) (T.stopped desk.new)) }
+    ensures err { OnErr result (T.answers desk.new ≡ T.answers desk.old) }
+    ensures err_goes_on { OnErr result (T.stopped desk.new ≡ T.stopped desk.old) }
+    ensures closed { K.closed link.new ≡ true }
+    ensures stays { StaysButClosed (K.left link.old) (K.left link.new) (K.gave link.old) (K.gave link.new)
+        (K.written link.old) (K.written link.new) (K.most link.old) (K.most link.new) (K.read_faults link.old)
+        (K.read_faults link.new) (K.write_faults link.old) (K.write_faults link.new) }
+{
+    link.close();
+    match desk.ask(rt, &ControlCall::Bye)? {
+        Ok(_) => Ok(end),
+        Err(Stopped) => Ok(SessionEnd::Stopped),
+    }
+}
+
+/// Says where a session stands then. At an end that no reply told of, it leaves.
 pub(crate) fn finish<R: Copy, K: Link, T: Desk<R>>(
     rt: R,
     link: &mut K,
     desk: &mut T,
     then: Then,
-) -> Result<Next, AllocError>
+) -> Result<State, AllocError>
     requires { IsSession (T.caller desk.old) }
     ensures caller { T.caller desk.new ≡ T.caller desk.old }
-    ensures finishes { IfOk result (λ next. Finishes then next (T.answers desk.old) (T.answers desk.new)
+    ensures finishes { IfOk result (λ stands. Finishes then stands (T.answers desk.old) (T.answers desk.new)
         (T.stopped desk.old) (T.stopped desk.new)) }
     ensures err { OnErr result (T.answers desk.new ≡ T.answers desk.old) }
     ensures err_goes_on { OnErr result (T.stopped desk.new ≡ T.stopped desk.old) }
-    ensures closes { IfOk result (λ next. Closes next (K.closed link.old) (K.closed link.new)) }
+    ensures err_end { OnErr result (IsEnd then) }
+    ensures closes { IfOk result (λ stands. Closes (said_at stands) (K.closed link.old) (K.closed link.new)) }
     ensures stays { StaysButClosed (K.left link.old) (K.left link.new) (K.gave link.old) (K.gave link.new)
         (K.written link.old) (K.written link.new) (K.most link.old) (K.most link.new) (K.read_faults link.old)
         (K.read_faults link.new) (K.write_faults link.old) (K.write_faults link.new) }
 {
     match then {
-        Then::GoOn => Ok(Next::Answered),
+        Then::GoOn => Ok(State::Open),
+        Then::Leave(end) => Ok(State::Leaving(end)),
         Then::Stop => {
             link.close();
-            Ok(Next::Ended(SessionEnd::Stopped))
+            Ok(State::Ended(SessionEnd::Stopped))
         }
-        Then::End(end) => {
-            link.close();
-            match desk.ask(rt, &ControlCall::Bye)? {
-                Ok(_) => Ok(Next::Ended(end)),
-                Err(Stopped) => Ok(Next::Ended(SessionEnd::Stopped)),
-            }
-        }
+        Then::End(end) => Ok(State::Ended(leave(rt, link, desk, end)?)),
     }
 }

@@ -1,17 +1,18 @@
 // The session of one connection.
-ghost use Rattle.std.specs.Prelude.{◌≡◌, ◌≢◌, ◌≤◌, false, vec_len, IfOk, OnErr};
+ghost use Rattle.std.specs.Prelude.{◌≡◌, ◌≢◌, ◌≤◌, true, false, vec_len, IfOk, OnErr};
 ghost use Rattle.chv_defs.specs.Machine.{IsSession};
 ghost use Rattle.chv_defs.specs.Desks.{is_held};
 ghost use Rattle.chv_defs.specs.SessionBytes.{session_limit};
 ghost use Rattle.chv_session.specs.Talk.{new_talk, end_of};
 ghost use Rattle.chv_session.specs.Taking.{TakesPieces};
-ghost use Rattle.chv_session.specs.Wire.{Closes, Drains, HasFault};
-ghost use Rattle.chv_session.specs.Step.{Step, Halts, IsReady, Breaks, ComesTo, GetsLost, state_after};
+ghost use Rattle.chv_session.specs.Moment.{moment, faults};
+ghost use Rattle.chv_session.specs.Wire.{Closes, Drains, StaysButClosed};
+ghost use Rattle.chv_session.specs.Step.{Step, Halts, IsReady, Breaks, ComesTo, GetsLost, said_at, is_over};
 
 use crate::fill::fill;
 use crate::next::Next;
 use crate::respond::respond;
-use crate::send::{finish, send};
+use crate::send::{finish, leave, send};
 use crate::state::State;
 use chv_defs::{Bytes, Desk, SessionEnd, SessionLog};
 use chv_http::Parser;
@@ -28,10 +29,9 @@ fn step<R: Copy, K: Link, T: Desk<R>>(
     rt: R,
     link: &mut K,
     desk: &mut T,
-) -> Result<Next, AllocError>
+) -> Result<State, AllocError>
     requires room { vec_len asked.old ≤ session_limit }
     requires session { IsSession (T.caller desk.old) }
-    requires going { T.stopped desk.old ≡ false }
 
     // What it takes, whatever the answer.
     ensures taken { TakesPieces asked.old.items asked.new.items parser.old (K.left link.old) (K.left link.new)
@@ -39,17 +39,18 @@ fn step<R: Copy, K: Link, T: Desk<R>>(
     ensures within { vec_len asked.new ≤ session_limit }
 
     // What it comes to.
-    ensures step { IfOk result (λ next. Step next asked.old.items asked.new.items parser.old parser.new replied.old.items
-        replied.new.items (T.answers desk.old) (T.answers desk.new) (K.written link.old) (K.written link.new)) }
-    ensures halts { IfOk result (λ next. Halts next (T.stopped desk.old) (T.stopped desk.new)) }
-    ensures closes { IfOk result (λ next. Closes next (K.closed link.old) (K.closed link.new)) }
-    ensures drains { IfOk result (λ next. Drains next (K.left link.new)) }
-    ensures cause { IfOk result (λ next. HasFault next (K.read_faults link.old) (K.read_faults link.new)
-        (K.write_faults link.old) (K.write_faults link.new)) }
+    ensures step { IfOk result (λ stands. Step (said_at stands) stands asked.old.items asked.new.items parser.old parser.new
+        replied.old.items replied.new.items (T.answers desk.old) (T.answers desk.new) (K.written link.old) (K.written link.new)
+        (faults (K.read_faults link.old) (K.read_faults link.new) (K.write_faults link.old) (K.write_faults link.new))) }
+    ensures halts { IfOk result (λ stands. Halts (said_at stands) (T.stopped desk.old) (T.stopped desk.new)) }
+    ensures closes { IfOk result (λ stands. Closes (said_at stands) (K.closed link.old) (K.closed link.new)) }
+    ensures drains { IfOk result (λ stands. Drains (said_at stands) (K.left link.new)) }
 
     // Want of memory.
-    ensures err { OnErr result (Breaks replied.old.items replied.new.items (T.answers desk.old) (T.answers desk.new)
-        (K.written link.old) (K.written link.new)) }
+    ensures err { OnErr result (Breaks asked.old.items asked.new.items parser.old replied.old.items replied.new.items
+        (T.answers desk.old) (T.answers desk.new) (K.written link.old) (K.written link.new)
+        (faults (K.read_faults link.old) (K.read_faults link.new) (K.write_faults link.old) (K.write_faults link.new))) }
+    ensures err_goes_on { OnErr result (T.stopped desk.new ≡ T.stopped desk.old) }
 
     // What stays.
     ensures caller { T.caller desk.new ≡ T.caller desk.old }
@@ -60,8 +61,8 @@ fn step<R: Copy, K: Link, T: Desk<R>>(
     let found = fill(parser, asked, link)?;
     let response = respond(alloc, rt, desk, found, parser.is_empty())?;
     let then = send(replied, link, &response)?;
-    let next = finish(rt, link, desk, then)?;
-    Ok(next)
+    let stands = finish(rt, link, desk, then)?;
+    Ok(stands)
 }
 
 /// The session of one connection. Contracts see what it took, what of that is not answered, what it replied, and where it
@@ -92,13 +93,14 @@ impl Model for Session {
     ghost invariant = { λ s. vec_len s.asked ≤ session_limit };
 }
 
-/// Where a session stands that came to this.
-fn stands(next: Next) -> State
-    ensures { result ≡ state_after next }
+/// What a call says that left a session there.
+fn said(stands: State) -> Next
+    ensures { result ≡ said_at stands }
 {
-    match next {
-        Next::Answered => State::Open,
-        Next::Ended(end) => State::Ended(end),
+    match stands {
+        State::Open | State::Leaving(_) => Next::Answered,
+        State::Ended(end) => Next::Ended(end),
+        State::Lost => Next::Ended(SessionEnd::Stopped),
     }
 }
 
@@ -116,10 +118,11 @@ impl Session {
         })
     }
 
-    /// Answers the next request, or ends. It takes of the connection until a request or a refusal is there, makes the
-    /// request's calls at the desk, and puts the reply. At an end it makes the call Bye, but where the run stopped, and
-    /// closes the connection; after an end it answers that end again. After want of memory it answers that again, and
-    /// the session is of use for its log alone.
+    /// One turn of the session: it answers the next request, or it ends. It takes of the connection until a request or a
+    /// refusal is there, makes the request's calls at the desk, and puts the reply. Behind a last request and behind a
+    /// refusal the next call is its end. At an end it closes the connection and makes the call Bye, but where the run
+    /// stopped before; after an end it answers that end again. After want of memory it answers that again, and the session
+    /// is of use for its log alone.
     pub fn next<R: Copy, K: Link, T: Desk<R>>(
         &mut self,
         rt: R,
@@ -128,59 +131,69 @@ impl Session {
     ) -> Result<Next, AllocError>
         requires session { IsSession (T.caller desk.old) }
         requires settled { self.old.state ≡ State.Open → is_held (T.answers desk.old) ≡ false }
-        requires going { self.old.state ≡ State.Open → T.stopped desk.old ≡ false }
 
         // The bytes that it takes, whatever the answer.
         ensures taken { TakesPieces self.old.asked self.new.asked self.old.rest (K.left link.old) (K.left link.new)
             (K.gave link.old) (K.gave link.new) (K.most link.old) }
 
         // What it comes to, by where it stood: its request, calls and reply, or its end.
-        ensures outcome { IfOk result (λ next. ComesTo self.old.state next self.old self.new (T.answers desk.old)
-            (T.answers desk.new) (K.written link.old) (K.written link.new)) }
-        ensures halts { self.old.state ≡ State.Open → IfOk result (λ next. Halts next (T.stopped desk.old) (T.stopped desk.new)) }
+        ensures outcome { IfOk result (λ next. ComesTo next
+            (moment self.old (T.answers desk.old) (T.stopped desk.old) (K.written link.old) (K.read_faults link.old) (K.write_faults link.old))
+            (moment self.new (T.answers desk.new) (T.stopped desk.new) (K.written link.new) (K.read_faults link.new) (K.write_faults link.new))) }
         ensures ready { IfOk result (λ next. IsReady next (T.answers desk.new)) }
 
-        // The connection at an end.
-        ensures closes { self.old.state ≡ State.Open → IfOk result (λ next. Closes next (K.closed link.old) (K.closed link.new)) }
+        // The connection, which is closed at an end.
+        ensures closes { is_over self.old.state ≡ false → IfOk result (λ next. Closes next (K.closed link.old) (K.closed link.new)) }
         ensures drains { self.old.state ≡ State.Open → IfOk result (λ next. Drains next (K.left link.new)) }
-        ensures cause { self.old.state ≡ State.Open → IfOk result (λ next. HasFault next (K.read_faults link.old)
-            (K.read_faults link.new) (K.write_faults link.old) (K.write_faults link.new)) }
 
         // Want of memory.
-        ensures lost { OnErr result (GetsLost self.old.state self.old self.new (T.answers desk.old) (T.answers desk.new)
-            (K.written link.old) (K.written link.new)) }
+        ensures lost { OnErr result (GetsLost
+            (moment self.old (T.answers desk.old) (T.stopped desk.old) (K.written link.old) (K.read_faults link.old) (K.write_faults link.old))
+            (moment self.new (T.answers desk.new) (T.stopped desk.new) (K.written link.new) (K.read_faults link.new) (K.write_faults link.new))) }
 
-        // What stays, and all else where it is not open.
+        // What stays; all of the connection but whether it is closed, where the session is not open; and all else where it
+        // is over.
         ensures caller { T.caller desk.new ≡ T.caller desk.old }
         ensures most { K.most link.new ≡ K.most link.old }
         ensures read_later { K.read_faults link.old ≤ K.read_faults link.new }
         ensures write_later { K.write_faults link.old ≤ K.write_faults link.new }
-        ensures link_rests { self.old.state ≢ State.Open → link.new ≡ link.old }
-        ensures desk_rests { self.old.state ≢ State.Open → desk.new ≡ desk.old }
+        ensures link_stays { self.old.state ≢ State.Open → StaysButClosed (K.left link.old) (K.left link.new) (K.gave link.old)
+            (K.gave link.new) (K.written link.old) (K.written link.new) (K.most link.old) (K.most link.new)
+            (K.read_faults link.old) (K.read_faults link.new) (K.write_faults link.old) (K.write_faults link.new) }
+        ensures link_rests { is_over self.old.state ≡ true → link.new ≡ link.old }
+        ensures desk_rests { is_over self.old.state ≡ true → desk.new ≡ desk.old }
     {
         match self.state {
-            State::Ended(end) => return Ok(Next::Ended(end)),
-            State::Lost => return Err(AllocError),
-            State::Open => {}
-        }
-        let answer = step(
-            self.alloc,
-            &mut self.parser,
-            &mut self.asked,
-            &mut self.replied,
-            rt,
-            link,
-            desk,
-        );
-        match answer {
-            Ok(next) => {
-                self.state = stands(next);
-                Ok(next)
-            }
-            Err(error) => {
-                self.state = State::Lost;
-                Err(error)
-            }
+            State::Ended(end) => Ok(Next::Ended(end)),
+            State::Lost => Err(AllocError),
+            State::Leaving(end) => match leave(rt, link, desk, end) {
+                Ok(end) => {
+                    self.state = State::Ended(end);
+                    Ok(Next::Ended(end))
+                }
+                Err(error) => {
+                    self.state = State::Lost;
+                    Err(error)
+                }
+            },
+            State::Open => match step(
+                self.alloc,
+                &mut self.parser,
+                &mut self.asked,
+                &mut self.replied,
+                rt,
+                link,
+                desk,
+            ) {
+                Ok(stands) => {
+                    self.state = stands;
+                    Ok(said(stands))
+                }
+                Err(error) => {
+                    self.state = State::Lost;
+                    Err(error)
+                }
+            },
         }
     }
 
@@ -190,7 +203,7 @@ impl Session {
     {
         let end = match self.state {
             State::Ended(end) => end,
-            State::Open | State::Lost => SessionEnd::Stopped,
+            State::Open | State::Leaving(_) | State::Lost => SessionEnd::Stopped,
         };
         SessionLog {
             asked: Bytes::new(self.asked),

@@ -1,10 +1,11 @@
-ghost use Rattle.std.specs.Prelude.{◌≡◌, ◌<◌, [], true, false, IfOk};
+ghost use Rattle.std.specs.Prelude.{◌≡◌, ◌<◌, true, false};
 ghost use Rattle.chv_defs.specs.Machine.{IsSession};
 ghost use Rattle.chv_defs.specs.Desks.{can_have, is_held};
 
 use super::*;
 use chv_defs::{
-    Bytes, ControlCall, ControlReply, Desk, Row, Rule, SessionEnd, SessionLog, Stopped, copy_of,
+    Bytes, ControlCall, ControlReply, CpuConfig, Desk, Hotplug, Info, MemConfig, Row, Rule,
+    SessionEnd, SessionLog, ShownState, Stopped, VmConfig, copy_of,
 };
 use chv_io::{Link, MemLink};
 use std::alloc::{AllocError, Global};
@@ -15,8 +16,20 @@ use std::test::Fail;
 const TWO: &[u8] = b"GET /api/v1/vmm.ping HTTP/1.1\r\n\r\nPUT /api/v1/vm.pause HTTP/1.1\r\n\r\n";
 
 /// The replies to them.
-const REPLIES: &[u8] =
+const TWO_REPLIES: &[u8] =
     b"HTTP/1.1 200 OK\r\nContent-Type: application/json\r\nContent-Length: 19\r\n\r\n{\"version\":\"chv 1\"}HTTP/1.1 204 No Content\r\n\r\n";
+
+/// A last ping, and bytes behind it.
+const LAST: &[u8] =
+    b"GET /api/v1/vmm.ping HTTP/1.1\r\nConnection: close\r\n\r\nGET /api/v1/vmm.ping HTTP/1.1\r\n\r\n";
+
+/// What is shown of no machine, the machine, and what is shown of it.
+const MACHINE: &[u8] =
+    b"GET /api/v1/vm.info HTTP/1.1\r\n\r\nPUT /api/v1/vm.create HTTP/1.1\r\nContent-Length: 2\r\n\r\n{}GET /api/v1/vm.info HTTP/1.1\r\n\r\n";
+
+/// The replies to them.
+const MACHINE_REPLIES: &[u8] =
+    b"HTTP/1.1 404 Not Found\r\nContent-Type: application/json\r\nContent-Length: 21\r\n\r\n{\"rule\":\"NotCreated\"}HTTP/1.1 204 No Content\r\n\r\nHTTP/1.1 200 OK\r\nContent-Type: application/json\r\nContent-Length: 245\r\n\r\n{\"config\":{\"cpus\":{\"boot_vcpus\":1,\"max_vcpus\":1},\"disks\":[],\"memory\":{\"hotplug_method\":\"Acpi\",\"hotplug_size\":0,\"hotplugged_size\":0,\"size\":536870912,\"zones\":[]}},\"devices\":[],\"memory_actual_size\":536870912,\"state\":\"Created\",\"vcpus\":[],\"zones\":[]}";
 
 /// A call with its answer.
 #[derive(Drop)]
@@ -36,18 +49,45 @@ impl Model for Made {
 /// A desk of session 1, which keeps what it is asked, and stops behind so many calls.
 #[derive(Drop)]
 struct TestDesk {
+    alloc: Global,
     made: Vec<Made>,
     stops_behind: usize,
     has_stopped: bool,
+    has_machine: bool,
 }
 
-/// Ping, Settle and Bye are done, a Begin holds, and every other call is refused.
-fn reply_to(call: &ControlCall) -> ControlReply
+/// What is shown of the machine.
+fn machine(alloc: Global) -> Info {
+    Info {
+        config: VmConfig {
+            cpus: CpuConfig { boot: 1, max: 1 },
+            memory: MemConfig {
+                size: 536_870_912,
+                hotplug: 0,
+                hotplugged: 0,
+                way: Hotplug::Acpi,
+                zones: Row::empty(alloc),
+            },
+            disks: Row::empty(alloc),
+        },
+        devices: Row::empty(alloc),
+        actual_size: 536_870_912,
+        state: ShownState::Created,
+        vcpus: Row::empty(alloc),
+        zones: Row::empty(alloc),
+    }
+}
+
+/// Ping, Create, Settle and Bye are done, a Begin holds, a machine that is there is shown, and all else is refused.
+fn reply_to(alloc: Global, has_machine: bool, call: &ControlCall) -> ControlReply
     ensures { can_have call.now result ≡ true }
 {
     match call {
-        ControlCall::Ping | ControlCall::Settle | ControlCall::Bye => ControlReply::Done,
+        ControlCall::Ping | ControlCall::Create(_) | ControlCall::Settle | ControlCall::Bye => {
+            ControlReply::Done
+        }
         ControlCall::Begin(_) => ControlReply::Holding,
+        ControlCall::Info if has_machine => ControlReply::Shown(machine(alloc)),
         _ => ControlReply::Ruled(Rule::NotCreated),
     }
 }
@@ -68,33 +108,32 @@ impl Desk<()> for TestDesk {
             self.has_stopped = true;
             return Ok(Err(Stopped));
         }
-        let reply = reply_to(call);
+        let reply = reply_to(self.alloc, self.has_machine, call);
         self.made.push(Made {
             call: copy_of(call)?,
             reply: copy_of(&reply)?,
         })?;
+        self.has_machine = self.has_machine || matches!(call, ControlCall::Create(_));
         Ok(Ok(reply))
     }
 }
 
-/// Goes on to the end of a session, which is answered once more behind it.
-fn run_to_end<K: Link, T: Desk<()>>(
+/// Makes so many turns of a session, or as many as it has.
+fn run<K: Link, T: Desk<()>>(
     session: &mut Session,
     link: &mut K,
     desk: &mut T,
-) -> Result<Option<SessionEnd>, AllocError>
+    turns: usize,
+) -> Result<(), AllocError>
     requires session { IsSession (T.caller desk.old) }
-    requires fresh { session.old.state ≡ State.Open }
     requires settled { is_held (T.answers desk.old) ≡ false }
-    requires going { T.stopped desk.old ≡ false }
 {
-    for _ in 0..100 {
-        match session.next((), link, desk)? {
-            Next::Answered => {}
-            Next::Ended(end) => return Ok(Some(end)),
+    for _ in 0..turns {
+        if session.next((), link, desk)? != Next::Answered {
+            return Ok(());
         }
     }
-    Ok(None)
+    Ok(())
 }
 
 /// What a session leaves: its log, what was put, whether the connection was closed, and how many calls were made.
@@ -106,25 +145,29 @@ struct Left {
     calls: usize,
 }
 
-/// A session over these bytes in pieces of `size`, of which the calls of the connection that `fail` lists fail.
+/// A session over a stream in pieces of `size`. The call of the connection with the number `fail` fails, and the run stops
+/// behind so many calls.
 fn play(
     alloc: Global,
     stream: &[u8],
     size: usize,
-    fail: &[u64],
+    fail: u64,
     stops_behind: usize,
+    turns: usize,
 ) -> Result<Left, AllocError>
     requires { 0 < size }
 {
-    let fail = Row::new(fail.to_vec(alloc)?);
+    let fail = Row::new(vec![in alloc; fail]?);
     let mut link = MemLink::new(alloc, Bytes::of(alloc, stream)?, size, 4096, fail)?;
     let mut desk = TestDesk {
+        alloc,
         made: Vec::new(alloc),
         stops_behind,
         has_stopped: false,
+        has_machine: false,
     };
     let mut session = Session::new(alloc)?;
-    let _ = run_to_end(&mut session, &mut link, &mut desk)?;
+    run(&mut session, &mut link, &mut desk, turns)?;
     Ok(Left {
         log: session.log(),
         put: Vec::from_slice(alloc, link.written())?,
@@ -134,65 +177,69 @@ fn play(
 }
 
 #[test]
-fn any_pieces(rt: HostRuntime) -> Result<(), Fail> {
+fn replies(rt: HostRuntime) -> Result<(), Fail> {
     let alloc = rt.alloc();
-    let whole = play(alloc, TWO, 4096, &[], 100)?;
-    assert!(rt; whole.put.as_slice() == REPLIES);
-    assert!(rt; whole.log.end == SessionEnd::Ended);
-    assert!(rt; whole.is_closed);
-    // Ping, Begin, Settle, Bye.
-    assert_eq!(rt; whole.calls, 4);
-    let bytes = play(alloc, TWO, 1, &[], 100)?;
-    assert!(rt; bytes.log == whole.log);
-    assert!(rt; bytes.put == whole.put);
+    let table: [(&[u8], &[u8], usize); 3] = [
+        (TWO, TWO_REPLIES, 4096),
+        (TWO, TWO_REPLIES, 1),
+        (MACHINE, MACHINE_REPLIES, 7),
+    ];
+    for (stream, expected, size) in table {
+        let left = play(alloc, stream, size.max(1), 0, 100, 100)?;
+        assert!(rt; left.put.as_slice() == expected);
+        // Each has four calls: Ping, Begin, Settle, Bye; and Info, Create, Info, Bye.
+        assert_eq!(rt; left.calls, 4);
+    }
     Ok(())
 }
 
 #[test]
 fn ends(rt: HostRuntime) -> Result<(), Fail> {
     let alloc = rt.alloc();
-    let table: [(&[u8], SessionEnd, usize); 5] = [
-        (b"", SessionEnd::Ended, 1),
+    // A stream, the call of the connection that fails, the calls behind which the run stops, and the turns; then the end,
+    // and the number of calls.
+    let table: [(&[u8], u64, usize, usize, SessionEnd, usize); 17] = [
+        (b"", 0, 9, 9, SessionEnd::Ended, 1),
         (
             b"PUT /api/v1/vm.boot HTTP/1.1\r\nContent-Length: 5\r\n\r\nhel",
+            0,
+            9,
+            9,
             SessionEnd::Cut,
             1,
         ),
+        // The Bye has a turn of its own behind a last request, and behind bytes that are refused.
+        (LAST, 0, 9, 1, SessionEnd::Stopped, 1),
+        (LAST, 0, 9, 2, SessionEnd::Closed, 2),
+        (LAST, 0, 1, 9, SessionEnd::Stopped, 1),
+        (b"no head\r\n\r\n", 0, 9, 1, SessionEnd::Stopped, 0),
+        (b"no head\r\n\r\n", 0, 9, 2, SessionEnd::Bad, 1),
         (
-            b"GET /api/v1/vmm.ping HTTP/1.1\r\nConnection: close\r\n\r\nGET /api/v1/vmm.ping HTTP/1.1\r\n\r\n",
+            b"GET /nowhere HTTP/1.0\r\n\r\n",
+            0,
+            9,
+            9,
             SessionEnd::Closed,
-            2,
+            1,
         ),
-        (b"no head\r\n\r\n", SessionEnd::Bad, 1),
-        (b"GET /nowhere HTTP/1.0\r\n\r\n", SessionEnd::Closed, 1),
+        // The run stops at each call in turn: at the Settle and at the Bye too.
+        (TWO, 0, 0, 9, SessionEnd::Stopped, 0),
+        (TWO, 0, 1, 9, SessionEnd::Stopped, 1),
+        (TWO, 0, 2, 9, SessionEnd::Stopped, 2),
+        (TWO, 0, 3, 9, SessionEnd::Stopped, 3),
+        // A read fails, two writes, and a read of the end.
+        (TWO, 1, 9, 9, SessionEnd::Fault, 1),
+        (TWO, 2, 9, 9, SessionEnd::Fault, 2),
+        (TWO, 3, 9, 9, SessionEnd::Fault, 4),
+        (TWO, 4, 9, 9, SessionEnd::Fault, 4),
+        (TWO, 5, 9, 9, SessionEnd::Ended, 4),
     ];
-    for (stream, end, calls) in table {
-        let left = play(alloc, stream, 7, &[], 100)?;
+    for (stream, fail, stops_behind, turns, end, calls) in table {
+        let left = play(alloc, stream, 4096, fail, stops_behind, turns)?;
         assert!(rt; left.log.end == end);
         assert_eq!(rt; left.calls, calls);
-        assert!(rt; left.is_closed);
-    }
-    // The run stops at each call in turn: at the Settle and at the Bye too.
-    for calls in 0..4 {
-        let left = play(alloc, TWO, 4096, &[], calls)?;
-        assert!(rt; left.log.end == SessionEnd::Stopped);
-        assert_eq!(rt; left.calls, calls);
-        assert!(rt; left.is_closed);
-    }
-    Ok(())
-}
-
-#[test]
-fn failing_connection(rt: HostRuntime) -> Result<(), Fail> {
-    let alloc = rt.alloc();
-    // A read, two writes, a read of the end.
-    for call in 1..5 {
-        let left = play(alloc, TWO, 4096, &[call], 100)?;
-        assert!(rt; left.log.end == SessionEnd::Fault);
-        assert!(rt; REPLIES.starts_with(left.put.as_slice()));
         assert!(rt; left.put.as_slice() == left.log.replied.as_slice());
-        assert!(rt; left.is_closed);
+        assert_eq!(rt; left.is_closed, turns > 1);
     }
-    assert!(rt; play(alloc, TWO, 4096, &[5], 100)?.log.end == SessionEnd::Ended);
     Ok(())
 }

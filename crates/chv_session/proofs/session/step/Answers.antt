@@ -1,31 +1,42 @@
-use Rattle.std.proofs.Common.{◌∙◌, refl}
+use Rattle.std.proofs.Common.{◌∙◌, refl, arith}
 use Rattle.chv_session.proofs.ResultLemmas.{on_err}
-use Rattle.chv_session.proofs.StepLemmas.{step_is, halts_is, breaks_none, breaks_sent}
+use Rattle.chv_session.proofs.StepLemmas.{turn_is, step_is, halts_is, breaks_taking, breaks_making, breaks_sending, breaks_ending}
 use Rattle.chv_session.proofs.session.step.Goals as goal
+
+pub returns-in_err-found-clause-err : goal.returns-in_err-found-clause-err
+returns-in_err-found-clause-err g c =
+    on_err _ _ (breaks_taking _ _ _ _ _ _ _ _ _ _ _ _ _ _ _ c.fill.ensures.taken refl refl c.fill.ensures.leaves.put_stays)
 
 pub returns-in_err-response-clause-err : goal.returns-in_err-response-clause-err
 returns-in_err-response-clause-err g c =
-    on_err _ _ (breaks_none _ _ _ _ _ _ refl c.in_err-response.ensures.err c.fill.ensures.leaves.put_stays)
+    on_err _ _ (breaks_making _ _ _ _ _ _ _ _ _ _ _ _ c.in_ok-found.ensures.found c.in_err-response.ensures.err refl c.fill.ensures.leaves.put_stays)
 
 pub returns-in_err-then-clause-err : goal.returns-in_err-then-clause-err
 returns-in_err-then-clause-err g c =
-    on_err _ _ (breaks_none _ _ _ _ _ _ c.in_err-then.ensures.err_replied
-    (c.in_ok-response.ensures.responds.0, c.in_ok-response.ensures.responds.1)
-    (c.in_err-then.ensures.err_written ∙ c.fill.ensures.leaves.put_stays))
+    on_err _ _ (breaks_sending _ _ _ _ _ _ _ _ _ _ _ _ _ _ _ _ _ c.in_ok-found.ensures.found c.in_ok-response.ensures.responds
+    c.in_err-then.ensures.err_replied (c.in_err-then.ensures.err_written ∙ c.fill.ensures.leaves.put_stays))
 
-pub returns-in_err-next-clause-err : goal.returns-in_err-next-clause-err
-returns-in_err-next-clause-err g c =
-    on_err _ _ (breaks_sent _ _ _ _ _ _ _ _ _ _ _ _ _ _ _ _ _ _ _ _ _ _ c.in_ok-found.ensures.found c.is_empty.ensures
-    c.in_ok-response.ensures.responds c.fill.ensures.leaves.put_stays c.in_ok-then.ensures.sends c.finish.ensures.stays.put_stays
-    c.in_err-next.ensures.err)
+pub returns-in_err-stands-clause-err : goal.returns-in_err-stands-clause-err
+returns-in_err-stands-clause-err g c =
+    let turn = turn_is _ _ _ _ _ _ _ _ _ _ _ _ _ _ _ _ _ _ _ _ _ _ _ _ _ _ c.in_ok-found.ensures.found c.in_ok-found.ensures.cause
+    (omega (arith, c.send.ensures.leaves.later, c.finish.ensures.stays.read_stays)) c.is_empty.ensures
+    c.in_ok-response.ensures.responds c.fill.ensures.leaves.put_stays c.fill.ensures.leaves.later c.in_ok-then.ensures.sends
+    c.finish.ensures.stays.put_stays (omega (arith, c.finish.ensures.stays.written_stays)) in
+    on_err _ _ (breaks_ending _ _ _ _ _ _ _ _ _ _ _ _ _ _ _ _ turn c.in_err-stands.ensures.err_end c.in_err-stands.ensures.err)
 
 pub returns-clause-step : goal.returns-clause-step
 returns-clause-step g c =
-    step_is _ _ _ _ _ _ _ _ _ _ _ _ _ _ _ _ _ _ _ _ _ _ _ _ c.in_ok-found.ensures.found c.is_empty.ensures
-    c.in_ok-response.ensures.responds c.fill.ensures.leaves.put_stays c.in_ok-then.ensures.sends c.finish.ensures.stays.put_stays
-    c.in_ok-next.ensures.finishes
+    let turn = turn_is _ _ _ _ _ _ _ _ _ _ _ _ _ _ _ _ _ _ _ _ _ _ _ _ _ _ c.in_ok-found.ensures.found c.in_ok-found.ensures.cause
+    (omega (arith, c.send.ensures.leaves.later, c.finish.ensures.stays.read_stays)) c.is_empty.ensures
+    c.in_ok-response.ensures.responds c.fill.ensures.leaves.put_stays c.fill.ensures.leaves.later c.in_ok-then.ensures.sends
+    c.finish.ensures.stays.put_stays (omega (arith, c.finish.ensures.stays.written_stays)) in
+    step_is _ _ _ _ _ _ _ _ _ _ _ _ _ _ _ _ _ _ turn c.in_ok-stands.ensures.finishes
 
 pub returns-clause-halts : goal.returns-clause-halts
 returns-clause-halts g c =
-    halts_is _ _ _ _ _ _ _ _ _ _ _ _ _ _ _ _ _ _ _ _ _ _ c.in_ok-found.ensures.found c.is_empty.ensures
-    c.in_ok-response.ensures.responds c.in_ok-then.ensures.sends c.in_ok-next.ensures.finishes
+    let turn = turn_is _ _ _ _ _ _ _ _ _ _ _ _ _ _ _ _ _ _ _ (g.K.Source.read_faults c.finish.new.link) _ _ _
+    (g.K.Sink.write_faults c.finish.new.link) _ _ c.in_ok-found.ensures.found c.in_ok-found.ensures.cause
+    (omega (arith, c.send.ensures.leaves.later, c.finish.ensures.stays.read_stays)) c.is_empty.ensures
+    c.in_ok-response.ensures.responds c.fill.ensures.leaves.put_stays c.fill.ensures.leaves.later c.in_ok-then.ensures.sends
+    c.finish.ensures.stays.put_stays (omega (arith, c.finish.ensures.stays.written_stays)) in
+    halts_is _ _ _ _ _ _ _ _ _ _ _ _ _ _ _ _ _ _ turn c.in_ok-stands.ensures.finishes
