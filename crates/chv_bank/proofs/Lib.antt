@@ -11,3 +11,4 @@ pub mod Spans
 pub mod Walks
 pub mod RowLaws
 pub mod RowBlocks
+pub mod UnwrittenBytes
