@@ -19,7 +19,8 @@ use Rattle.chv_defs.specs.LegalBank.{IsNext, IsLegal, OwnerMay, IfAccess, Number
 use Rattle.chv_bank.specs.declared.state.State.{State}
 use Rattle.chv_bank.specs.declared.bank.Bank.TheInside.{Inside}
 use Rattle.chv_bank.specs.Bank.{BankBook, with_entry, owner_reply, is_unpin, HasItsNumber, refusal_of, sealed_or_full, full, passes_limit, places_of}
-use Rattle.chv_bank.specs.Caches.{IsStateAfter, Steps, pins_after}
+use Rattle.chv_bank.specs.Caches.{IsStateAfter, Steps}
+use Rattle.chv_bank.specs.CallerPins.{HoldPins, total}
 use Rattle.chv_bank.specs.Kept.{IsKept}
 use Rattle.chv_bank.proofs.Latest.{is_open-push, is_sealed-push, is_frozen-push, last_byte-push}
 use Rattle.chv_bank.proofs.PinLists.{pins_of-push}
@@ -165,7 +166,7 @@ IsStateAfter-push bank h s t caller c r is steps =
       opened = λ k small. steps.opened k small ∙ ap (unwrap_or (says_open bank k c r)) (is.opened k small) ∙ sym (is_open-push bank h e k);
       sealed = λ k small. steps.sealed k small ∙ ap (unwrap_or (says_sealed bank k c r)) (is.sealed k small) ∙ sym (is_sealed-push bank h e k);
       frozen = steps.frozen ∙ ap (unwrap_or (says_frozen c)) is.frozen ∙ sym (is_frozen-push h e);
-      pins = steps.pins ∙ ap (λ pins. pins_after pins caller c r) is.pins ∙ sym (pins_of-push h caller c r);
+      pins = subst (HoldPins t.pins) (sym (pins_of-push h caller c r)) (steps.pins (pins_of h) is.pins);
       bytes = λ k at small. steps.bytes k at small ∙ ap (unwrap_or (says_byte bank k at c r)) (is.bytes k at small) ∙ sym (last_byte-push bank h e k at);
     }
 
@@ -182,9 +183,9 @@ pub IsKept-entry : (old new : Inside) (caller : ℕ) (c : BankCall) (r : BankRep
     → new.history.items ≡ with_entry old.history.items caller c r
     → new.payload ≡ old.payload + payload_of c
     → new.sheets ≡ new.state.memory.reserved
-    → length old.history.items + 1 + new.reserved + length new.state.pins ≤ most_entries
+    → length old.history.items + 1 + new.reserved + total new.state.pins ≤ most_entries
     → new.payload + new.sheets * 4096 ≤ most_payload
-    → length old.history.items + 1 + new.reserved + length new.state.pins ≤ vec_capacity new.history
+    → length old.history.items + 1 + new.reserved + total new.state.pins ≤ vec_capacity new.history
     → IsKept new
 IsKept-entry old new caller c r kept next steps same items bytes sheets entries fits room =
     let e : BankEntry = record { caller = caller; call = c; reply = r } in

@@ -124,7 +124,7 @@ byte_stays bank history block at byte from to inside written =
     written.later inside
     (λ m x low high there is. let kept = written.kept m x low high there in last_byte-push bank (take m history) x block at ∙ stays_put bank block at byte (last_byte bank (take m history) block at) x.call x.reply kept.0 kept.1 is)
 
-got_bytes : (o : Option ℕ) (bytes all : List ℕ) → reply.Got bytes ≡ fault_or o (reply.Got all) → bytes ≡ all
+pub got_bytes : (o : Option ℕ) (bytes all : List ℕ) → reply.Got bytes ≡ fault_or o (reply.Got all) → bytes ≡ all
 got_bytes None bytes all h = cc
 got_bytes (Some block) bytes all h = cc
 

@@ -16,6 +16,7 @@ use Rattle.chv_bank.specs.declared.state.State.{State}
 use Rattle.chv_bank.specs.declared.bank.Bank.TheInside.{Inside}
 use Rattle.chv_bank.specs.Bank.{BankBook, with_entry, owner_reply, is_unpin, pages_used, HasItsNumber, refusal_of, passes_limit, places_of, entries_taken, bytes_taken}
 use Rattle.chv_bank.specs.Caches.{IsStateAfter, Steps, pins_after}
+use Rattle.chv_bank.specs.CallerPins.{HoldPins, total}
 use Rattle.chv_bank.specs.Kept.{IsKept}
 use Rattle.chv_bank.proofs.Appended.{IsKept-entry, IsNext-owner, IsNext-access, IsNext-unpin, IsFree, free}
 use Rattle.chv_bank.proofs.PinLists.{fewer}
@@ -28,9 +29,9 @@ seen b = record { zone = b.zone; bank = b.bank; history = b.history.items; entri
 
 -- with the same history
 pub IsKept-like : (old new : Inside) → IsKept old → new.bank ≡ old.bank → new.history.items ≡ old.history.items → IsStateAfter old.bank old.history.items new.state → new.payload ≡ old.payload → new.sheets ≡ new.state.memory.reserved
-    → length old.history.items + new.reserved + length new.state.pins ≤ most_entries
+    → length old.history.items + new.reserved + total new.state.pins ≤ most_entries
     → old.payload + new.sheets * 4096 ≤ most_payload
-    → length old.history.items + new.reserved + length new.state.pins ≤ vec_capacity new.history
+    → length old.history.items + new.reserved + total new.state.pins ≤ vec_capacity new.history
     → IsKept new
 IsKept-like old new kept same items state bytes sheets entries fits room =
     let long : length new.history.items ≡ length old.history.items = ap length items in
@@ -49,7 +50,7 @@ IsKept-like old new kept same items state bytes sheets entries fits room =
 pub IsKept-roomier : (old new : Inside) → IsKept old → new.bank ≡ old.bank → new.history.items ≡ old.history.items → new.state ≡ old.state → new.payload ≡ old.payload → new.sheets ≡ old.sheets → new.reserved ≡ old.reserved
     → vec_capacity old.history ≤ vec_capacity new.history → IsKept new
 IsKept-roomier old new kept same items state bytes sheets reserved room =
-    let pins : length new.state.pins ≡ length old.state.pins = ap (λ (s : State). length s.pins) state in
+    let pins : total new.state.pins ≡ total old.state.pins = ap (λ (s : State). total s.pins) state in
     IsKept-like old new kept same items (subst (λ (s : State). IsStateAfter old.bank old.history.items s) (sym state) kept.state) bytes
     (sheets ∙ kept.sheets_counted ∙ sym (ap (λ (s : State). s.memory.reserved) state))
     (omega (arith, pins, reserved, kept.entries_fit)) (omega (arith, sheets, kept.bytes_fit)) (omega (arith, pins, reserved, kept.room, room))
@@ -91,7 +92,10 @@ pub owner-kept : (old new : Inside) (c : BankCall) (r : BankReply) → IsKept ol
     → vec_capacity old.history ≤ vec_capacity new.history → IsKept new
 owner-kept old new c r kept own may answer steps same items bytes sheets reserved entries room =
     let next : IsNext old.bank old.history.items (record { caller = 0; call = c; reply = r }) = subst (λ (x : BankReply). IsNext old.bank old.history.items (record { caller = 0; call = c; reply = x })) (sym answer) (IsNext-owner old.bank old.history.items c own may) in
-    let pins : length new.state.pins ≡ length old.state.pins = ap length (steps.pins ∙ owner_pins old.state.pins c r own) in
+    let held : HoldPins old.state.pins (pins_of old.history.items) = kept.state.pins in
+    let after : HoldPins new.state.pins (pins_after (pins_of old.history.items) 0 c r) = steps.pins (pins_of old.history.items) held in
+    let as_many : length (pins_after (pins_of old.history.items) 0 c r) ≡ length (pins_of old.history.items) = ap length (owner_pins (pins_of old.history.items) c r own) in
+    let pins : total new.state.pins ≡ total old.state.pins = after.counted ∙ as_many ∙ sym held.counted in
     let weight : payload_of c ≡ pages_used c * 4096 = owner_bytes old.bank old.history.items c own may in
     IsKept-entry old new 0 c r kept next steps same items bytes
     (omega (arith, sheets, reserved, kept.sheets_counted))
@@ -127,13 +131,13 @@ pub access-kept : (old new : Inside) (caller : ℕ) (c : BankCall) (r : BankRepl
     → r ≡ access_reply old.bank old.history.items c
     → Steps old.bank old.state new.state caller c r → new.bank ≡ old.bank → new.history.items ≡ with_entry old.history.items caller c r → new.payload ≡ old.payload + payload_of c
     → new.sheets ≡ old.sheets → new.state.memory.reserved ≡ old.state.memory.reserved → new.reserved ≡ old.reserved
-    → length old.history.items + old.reserved + length old.state.pins + 2 ≤ vec_capacity new.history → IsKept new
+    → length old.history.items + old.reserved + total old.state.pins + 2 ≤ vec_capacity new.history → IsKept new
 access-kept old new caller c r kept above own un number due answer steps same items bytes sheets reserved entries room =
     let is : IsFree (seen old) c = free (seen old) c own un due in
     let next : IsNext old.bank old.history.items (record { caller = caller; call = c; reply = r }) = subst (λ (x : BankReply). IsNext old.bank old.history.items (record { caller = caller; call = c; reply = x })) (sym answer) (IsNext-access (seen old) caller c above own un number is) in
     let fits = below_limits (seen old) (places_of c) (payload_of c) is.fits in
-    let many : length old.state.pins ≡ length (pins_of old.history.items) = ap length kept.state.pins in
-    let pins : length new.state.pins + 1 ≤ length old.state.pins + places_of c = (let e : length new.state.pins ≡ length (pins_after old.state.pins caller c r) = ap length steps.pins in omega (arith, e, access_pins old.state.pins caller c r own un)) in
+    let many : total old.state.pins ≡ length (pins_of old.history.items) = kept.state.pins.counted in
+    let pins : total new.state.pins + 1 ≤ total old.state.pins + places_of c = (let after : HoldPins new.state.pins (pins_after (pins_of old.history.items) caller c r) = steps.pins (pins_of old.history.items) kept.state.pins in omega (arith, after.counted, many, access_pins (pins_of old.history.items) caller c r own un)) in
     let few : places_of c ≤ 2 = few_places c in
     IsKept-entry old new caller c r kept next steps same items bytes
     (sheets ∙ kept.sheets_counted ∙ sym reserved)
@@ -146,8 +150,10 @@ pub unpin-kept : (old new : Inside) (caller number : ℕ) → IsKept old → 0 <
     → new.sheets ≡ old.sheets → new.state.memory.reserved ≡ old.state.memory.reserved → new.reserved ≡ old.reserved
     → vec_capacity old.history ≤ vec_capacity new.history → IsKept new
 unpin-kept old new caller number kept above there steps same items bytes sheets reserved entries room =
-    let out : has_pin old.state.pins caller number ≡ true = subst (λ (ps : List PinOut). has_pin ps caller number ≡ true) (sym kept.state.pins) there in
-    let pins : length new.state.pins < length old.state.pins = (let e : length new.state.pins ≡ length (pins_after old.state.pins caller (call.Unpin number) reply.Done) = ap length steps.pins in omega (arith, e, fewer caller number old.state.pins out)) in
+    let held : HoldPins old.state.pins (pins_of old.history.items) = kept.state.pins in
+    let after : HoldPins new.state.pins (pins_after (pins_of old.history.items) caller (call.Unpin number) reply.Done) = steps.pins (pins_of old.history.items) held in
+    let less : length (pins_after (pins_of old.history.items) caller (call.Unpin number) reply.Done) < length (pins_of old.history.items) = fewer caller number (pins_of old.history.items) there in
+    let pins : total new.state.pins < total old.state.pins = omega (arith, after.counted, less, held.counted) in
     IsKept-entry old new caller (call.Unpin number) reply.Done kept (IsNext-unpin old.bank old.history.items caller number above there) steps same items
     (omega (arith, bytes))
     (sheets ∙ kept.sheets_counted ∙ sym reserved)

@@ -9,3 +9,6 @@ pub mod Sets
 pub mod ShownPages
 pub mod Spans
 pub mod Walks
+pub mod RowLaws
+pub mod RowBlocks
+pub mod UnwrittenBytes

@@ -1,10 +1,9 @@
 -- The outstanding pins, where one more entry is appended.
-use Rattle.std.proofs.Common.{◌≡◌, ℕ, ◌≤◌, ◌<◌, ◌+◌, Bool, true, false, List, [], ◌∷◌, ◌++◌, Option, None, Some, refl, sym, ◌∙◌, ap, length, arith, suc, get_or, take}
-use Rattle.std.specs.Prelude.{cond, not, ◌==◌, ◌&&◌, ◌||◌, filter, map, if◌then◌else◌}
+use Rattle.std.proofs.Common.{◌≡◌, ℕ, ◌≤◌, ◌<◌, ◌+◌, Bool, true, false, List, [], ◌∷◌, ◌++◌, Option, None, Some, refl, sym, ◌∙◌, ap, length, arith, suc}
+use Rattle.std.specs.Prelude.{cond, not, ◌==◌, ◌&&◌, ◌||◌, filter, if◌then◌else◌}
 use Rattle.std.specs.List.{list_any}
 use Rattle.std.specs.Option.{option_to_list}
-use Rattle.std.proofs.lemmas.List.{append-nil, map-append}
-use Rattle.std.proofs.lemmas.List.Elements.{filter_more}
+use Rattle.std.proofs.lemmas.List.{append-nil}
 use Rattle.std.proofs.lemmas.List.Folds.{list_any-append}
 use Rattle.std.proofs.lemmas.Bool.Decides.{nat_tests}
 use Rattle.chv_defs.specs.declared.bank.BankCall.{BankCall}
@@ -12,7 +11,7 @@ use Rattle.chv_defs.specs.declared.bank.BankCall.TheVariants as call
 use Rattle.chv_defs.specs.declared.bank.BankReply.{BankReply}
 use Rattle.chv_defs.specs.declared.bank.BankReply.TheVariants as reply
 use Rattle.chv_defs.specs.declared.bank.BankEntry.{BankEntry}
-use Rattle.chv_defs.specs.BankState.{PinOut, pins_of, pin_made, is_unpin_of, gives_back, unless_given_back, has_pin, lesser, lowest}
+use Rattle.chv_defs.specs.BankState.{PinOut, pins_of, pin_made, is_unpin_of, gives_back, unless_given_back, has_pin}
 use Rattle.chv_bank.specs.Bank.{with_entry}
 use Rattle.chv_bank.specs.Caches.{pins_after}
 use Rattle.chv_bank.proofs.Sets.{and_false}
@@ -95,37 +94,3 @@ fewer caller number (x ∷ xs) h =
     fewer_here caller number x ((caller == x.caller) && (number == x.number)) (filter (λ (pin : PinOut). not ((caller == pin.caller) && (number == pin.number))) xs) (length xs)
     (filter_few (λ (pin : PinOut). not ((caller == pin.caller) && (number == pin.number))) xs)
     (λ f. fewer caller number xs (let g : ((x.caller == caller) && (x.number == number)) ≡ false = eqb_swap x.caller caller x.number number ∙ f in sym (ap (λ b. b || has_pin xs caller number) g) ∙ h))
-
--- ---- the lowest caller
-
-lesser_both : (x y : ℕ) (o : Option ℕ) → lesser y (Some (lesser x o)) ≡ lesser x (Some (lesser y o))
-lesser_both x y None = omega arith
-lesser_both x y (Some m) = omega arith
-
--- one more number at the end
-pub lowest_push : (ns : List ℕ) (x : ℕ) → lowest (ns ++ x ∷ []) ≡ Some (lesser x (lowest ns))
-lowest_push [] x = refl
-lowest_push (y ∷ ns) x = ap (λ o. Some (lesser y o)) (lowest_push ns x) ∙ ap Some (lesser_both x y (lowest ns))
-
--- ---- a loop over the pins
-
-least_in : (p : PinOut → Bool) (pins : List PinOut) (k : ℕ) (x : PinOut) → k < length pins → x ≡ get_or pins k x → (b : Bool) → p x ≡ b →
-    lowest (map (λ (pin : PinOut). pin.caller) (filter p (take (k + 1) pins))) ≡ lowest (map (λ (pin : PinOut). pin.caller) (filter p (take k pins) ++ cond b (x ∷ []) []))
-least_in p pins k x small at b e =
-    let same : cond (p (get_or pins k x)) (get_or pins k x ∷ []) [] ≡ cond b (x ∷ []) [] = ap (λ (y : PinOut). let one : List PinOut = cond (p y) (y ∷ []) [] in one) (sym at) ∙ ap (λ t. let one : List PinOut = cond t (x ∷ []) [] in one) e in
-    ap (λ (ps : List PinOut). lowest (map (λ (pin : PinOut). pin.caller) ps)) (filter_more p pins k x small ∙ ap (λ (ps : List PinOut). filter p (take k pins) ++ ps) same)
-
--- one more pin that pins the block
-pub least_more : (p : PinOut → Bool) (pins : List PinOut) (k : ℕ) (x : PinOut) → k < length pins → x ≡ get_or pins k x → p x ≡ true →
-    lowest (map (λ (pin : PinOut). pin.caller) (filter p (take (k + 1) pins))) ≡ Some (lesser x.caller (lowest (map (λ (pin : PinOut). pin.caller) (filter p (take k pins)))))
-least_more p pins k x small at e =
-    least_in p pins k x small at true e
-    ∙ ap lowest (map-append (λ (pin : PinOut). pin.caller) (filter p (take k pins)) (x ∷ []))
-    ∙ lowest_push (map (λ (pin : PinOut). pin.caller) (filter p (take k pins))) x.caller
-
--- one more that does not
-pub least_same : (p : PinOut → Bool) (pins : List PinOut) (k : ℕ) (x : PinOut) → k < length pins → x ≡ get_or pins k x → p x ≡ false →
-    lowest (map (λ (pin : PinOut). pin.caller) (filter p (take (k + 1) pins))) ≡ lowest (map (λ (pin : PinOut). pin.caller) (filter p (take k pins)))
-least_same p pins k x small at e =
-    least_in p pins k x small at false e
-    ∙ ap (λ (ps : List PinOut). lowest (map (λ (pin : PinOut). pin.caller) ps)) (append-nil (filter p (take k pins)))

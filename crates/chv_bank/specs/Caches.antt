@@ -1,5 +1,5 @@
 -- What the code keeps beside a bank's history, and how it follows the history.
-use Rattle.std.specs.Prelude.{◌≡◌, ℕ, ◌<◌, ◌==◌, ◌&&◌, not, List, [], ◌∷◌, ◌++◌, length, filter, unwrap_or}
+use Rattle.std.specs.Prelude.{◌≡◌, ℕ, ◌<◌, List, [], ◌∷◌, ◌++◌, length, filter, unwrap_or}
 use Rattle.chv_defs.specs.declared.bank.BankCall.{BankCall}
 use Rattle.chv_defs.specs.declared.bank.BankCall.TheVariants as call
 use Rattle.chv_defs.specs.declared.bank.BankReply.{BankReply}
@@ -9,6 +9,7 @@ use Rattle.chv_defs.specs.BlockSets.{has}
 use Rattle.chv_defs.specs.PageContents.{byte_at}
 use Rattle.chv_defs.specs.BankState.{PinOut, pins_of, is_open, is_sealed, is_frozen, most_blocks, says_open, says_sealed, says_frozen}
 use Rattle.chv_defs.specs.LastByte.{last_byte, says_byte}
+use Rattle.chv_bank.specs.CallerPins.{HoldPins, is_other}
 use Rattle.chv_bank.specs.declared.state.State.{State}
 
 -- the sets and the memory are of the blocks that a zone can have
@@ -23,12 +24,12 @@ pub record IsStateAfter (bank : ℕ) (history : List BankEntry) (s : State) : Ty
   pub opened : (k : ℕ) → k < most_blocks → has s.open_blocks k ≡ is_open bank history k
   pub sealed : (k : ℕ) → k < most_blocks → has s.sealed_blocks k ≡ is_sealed bank history k
   pub frozen : s.frozen ≡ is_frozen history
-  pub pins : s.pins ≡ pins_of history
+  pub pins : HoldPins s.pins (pins_of history)
   pub bytes : (k at : ℕ) → k < most_blocks → byte_at s.memory k at ≡ last_byte bank history k at
 
 -- the outstanding pins after an entry
 abbrev pub pins_after : List PinOut → ℕ → BankCall → BankReply → List PinOut
-pins_after pins caller (call.Unpin number) r = filter (λ (pin : PinOut). not ((caller == pin.caller) && (number == pin.number))) pins
+pins_after pins caller (call.Unpin number) r = filter (is_other caller number) pins
 pins_after pins caller (call.Pin number span) reply.Pinned = pins ++ record { caller = caller; number = number; span = span } ∷ []
 pins_after pins caller c r = pins
 
@@ -38,5 +39,5 @@ pub record Steps (bank : ℕ) (old new : State) (caller : ℕ) (c : BankCall) (r
   pub opened : (k : ℕ) → k < most_blocks → has new.open_blocks k ≡ unwrap_or (says_open bank k c r) (has old.open_blocks k)
   pub sealed : (k : ℕ) → k < most_blocks → has new.sealed_blocks k ≡ unwrap_or (says_sealed bank k c r) (has old.sealed_blocks k)
   pub frozen : new.frozen ≡ unwrap_or (says_frozen c) old.frozen
-  pub pins : new.pins ≡ pins_after old.pins caller c r
+  pub pins : (pins : List PinOut) → HoldPins old.pins pins → HoldPins new.pins (pins_after pins caller c r)
   pub bytes : (k at : ℕ) → k < most_blocks → byte_at new.memory k at ≡ unwrap_or (says_byte bank k at c r) (byte_at old.memory k at)

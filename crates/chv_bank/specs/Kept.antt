@@ -5,6 +5,7 @@ use Rattle.chv_defs.specs.BankState.{banks, most_entries, most_payload, payload}
 use Rattle.chv_defs.specs.LegalBank.{IsLegal}
 use Rattle.chv_bank.specs.declared.bank.Bank.TheInside.{Inside}
 use Rattle.chv_bank.specs.Caches.{IsStateAfter}
+use Rattle.chv_bank.specs.CallerPins.{total}
 
 -- the history is legal, and what is kept beside it is what the definitions say at its end; every place that is reserved
 -- or kept for an Unpin is below the limits, and there is memory for it
@@ -14,6 +15,6 @@ pub record IsKept (b : Inside) : Type 0 where
   pub state : IsStateAfter b.bank b.history.items b.state
   pub bytes_counted : b.payload ≡ payload b.history.items
   pub sheets_counted : b.sheets ≡ b.state.memory.reserved
-  pub entries_fit : length b.history.items + b.reserved + length b.state.pins ≤ most_entries
+  pub entries_fit : length b.history.items + b.reserved + total b.state.pins ≤ most_entries
   pub bytes_fit : b.payload + b.sheets * 4096 ≤ most_payload
-  pub room : length b.history.items + b.reserved + length b.state.pins ≤ vec_capacity b.history
+  pub room : length b.history.items + b.reserved + total b.state.pins ≤ vec_capacity b.history

@@ -107,3 +107,16 @@ pub record IsLastWritten (bank : ℕ) (history : List BankEntry) (block at byte 
 abbrev pub ReadsGiveTheLastWrite : Type 0
 ReadsGiveTheLastWrite = (bank : ℕ) (history : List BankEntry) (block offset len k byte from to caller : ℕ) (bytes : List ℕ) → IsLegal bank history → IsLastWritten bank history block (offset + k) byte from to →
     slice_get history to ≡ Some (record { caller = caller; call = call.Read block offset len; reply = reply.Got bytes }) → k < len → slice_index bytes k ≡ byte
+
+-- An entry opens a block, and no entry between it and another place puts a byte at an offset of the block.
+pub record IsUnwritten (bank : ℕ) (history : List BankEntry) (block at from to : ℕ) : Type 0 where
+  pub opening : BankEntry
+  pub stands : slice_get history from ≡ Some opening
+  pub opened : opens bank block opening.call ≡ true
+  pub later : from < to
+  pub kept : (k : ℕ) (e : BankEntry) → from < k → k < to → slice_get history k ≡ Some e → puts block at e.call e.reply ≡ None
+
+-- A Read that is done gives 0 at each offset that no done Write or Fill covers since the block was opened.
+abbrev pub UnwrittenBytesAreZero : Type 0
+UnwrittenBytesAreZero = (bank : ℕ) (history : List BankEntry) (block offset len k from to caller : ℕ) (bytes : List ℕ) → IsLegal bank history → IsUnwritten bank history block (offset + k) from to →
+    slice_get history to ≡ Some (record { caller = caller; call = call.Read block offset len; reply = reply.Got bytes }) → k < len → slice_index bytes k ≡ 0

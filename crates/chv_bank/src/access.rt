@@ -1,5 +1,5 @@
 // Accesses: Read, Write, Pin and Unpin.
-ghost use Rattle.std.specs.Prelude.{◌≡◌, ◌+◌, ◌<◌, ◌≤◌, ℕ, List, false, IfOk, OnOk, OnErr, length};
+ghost use Rattle.std.specs.Prelude.{◌≡◌, ◌+◌, ◌<◌, ◌≤◌, ◌^◌, ℕ, List, false, IfOk, OnOk, OnErr, length};
 ghost use Rattle.chv_defs.specs.declared.bank.BankCall.TheVariants as call;
 ghost use Rattle.chv_defs.specs.declared.bank.BankReply.TheVariants as reply;
 ghost use Rattle.chv_defs.specs.declared.bank.BankEntry.{BankEntry};
@@ -8,6 +8,7 @@ ghost use Rattle.chv_defs.specs.LastByte.{last_bytes};
 ghost use Rattle.chv_defs.specs.LegalBank.{access_reply, done_reply, first_closed, first_sealed};
 ghost use Rattle.chv_bank.specs.Bank.{is_unpin, places_of};
 ghost use Rattle.chv_bank.specs.Caches.{IsFormed, IsStateAfter, Steps};
+ghost use Rattle.chv_bank.specs.CallerPins.{total};
 
 use crate::blocks::{first_in, first_not_in};
 use crate::state::State;
@@ -117,6 +118,7 @@ pub fn leave(
     requires access { is_owner_call call.now ≡ false }
     requires no_unpin { is_unpin call.now ≡ false }
     requires call { IsCall bank call.now }
+    requires few { total state.old.pins < 2 ^ 32 }
     ensures ok { OnOk result (Steps bank state.old state.new caller call.now reply.now) }
     ensures reserved { state.new.memory.reserved ≡ state.old.memory.reserved }
     ensures err { OnErr result (state.new ≡ state.old) }

@@ -1,9 +1,10 @@
 // The bank.
-ghost use Rattle.std.specs.Prelude.{◌≡◌, ◌+◌, ◌-◌, ◌<◌, ◌≤◌, ◌^◌, List, [], ◌∷◌, ◌++◌, true, false, None, min, IfOk, IfErr, IsOk, OnOk, OnErr, MatchResult, length};
+ghost use Rattle.std.specs.Prelude.{◌≡◌, ◌+◌, ◌-◌, ◌<◌, ◌≤◌, ◌^◌, List, [], ◌∷◌, ◌++◌, true, false, None, Some, min, IfOk, IfErr, IsOk, OnOk, OnErr, MatchResult, length};
 ghost use Rattle.chv_defs.specs.BankState.{banks, is_owner_call, IsCall};
 ghost use Rattle.chv_defs.specs.LegalBank.{access_reply, IsLegal, OwnerMay};
 ghost use Rattle.chv_defs.specs.declared.bank.BankCall.TheVariants as call;
 ghost use Rattle.chv_defs.specs.declared.bank.BankReply.TheVariants as reply;
+ghost use Rattle.chv_defs.specs.declared.bank.Refusal.{Refusal};
 
 use crate::access::{find_sealed, leave, reply_to};
 use crate::entries::{
@@ -81,6 +82,8 @@ impl Bank {
         ensures made { IfOk result (λ answer. MatchResult answer
             (λ _. self.new ≡ record self.old { entries = self.old.entries + entries; pages = pages })
             (λ _. self.new ≡ self.old)) }
+        // A refusal takes no memory.
+        ensures refused { (why : Refusal) → room_refusal self.old entries pages ≡ Some why → IsOk result }
         ensures err { OnErr result (self.new ≡ self.old) }
     {
         if self.passes_limit(entries as u64, pages as u64 * PAGE_BYTES) {
@@ -150,6 +153,8 @@ impl Bank {
             (λ _. self.new ≡ self.old)) }
         // An Unpin takes no memory.
         ensures unpin { is_unpin call.now ≡ true → IsOk result }
+        // Nor does a refusal.
+        ensures refused { (why : Refusal) → refusal_of self.old call.now ≡ Some why → IsOk result }
         ensures err { OnErr result (self.new ≡ self.old) }
     {
         if let BankCall::Unpin { number } = call {

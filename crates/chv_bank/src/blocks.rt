@@ -1,8 +1,10 @@
 // The blocks of a bank in sets, and the search for the first one of a span.
 ghost use Rattle.std.specs.Prelude.{◌≡◌, ℕ, ◌<◌, ◌≤◌, ◌+◌, ◌==◌, not, nat_lt, false, if◌then◌else◌, length, find, unwrap_or};
-ghost use Rattle.chv_defs.specs.BankState.{belongs, blocks_in, if_named, lowest_pinned, most_blocks, names, IsInZone};
+ghost use Rattle.std.specs.List.{list_any};
+ghost use Rattle.chv_defs.specs.BankState.{belongs, blocks_in, if_named, most_blocks, names, IsInZone};
 ghost use Rattle.chv_defs.specs.BlockSets.{has};
 ghost use Rattle.chv_defs.specs.PageContents.{byte_at};
+ghost use Rattle.chv_bank.specs.CallerPins.{has_pinned};
 
 use crate::pins::Pins;
 use crate::state::{BANKS, MOST_BLOCKS};
@@ -108,7 +110,7 @@ pub fn first_not_in(set: &BlockSet, bank: u8, span: Span) -> Option<u32>
 /// The lowest of the bank's blocks of a span that a pin pins.
 pub fn first_pinned(pins: &Pins, bank: u8, span: Span) -> Option<u32>
     requires { IsInZone span }
-    ensures { result ≡ lowest_pinned bank pins.now (blocks_in bank span) }
+    ensures { result ≡ find (λ block. list_any (has_pinned bank block) pins.now) (blocks_in bank span) }
 {
     for block in span.first..span.first + span.count {
         if belongs(bank, block) && pins.pins_block(bank, block) {

@@ -17,5 +17,5 @@ mod tests;
 pub use bank::Bank;
 pub use laws::{
     closed_blocks_are_not_reached, opened_blocks_are_zero, pinned_bank_is_left,
-    pinned_blocks_stay_open, reads_give_the_last_write,
+    pinned_blocks_stay_open, reads_give_the_last_write, unwritten_bytes_are_zero,
 };

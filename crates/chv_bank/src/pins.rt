@@ -1,7 +1,9 @@
 // The outstanding pins.
-ghost use Rattle.std.specs.Prelude.{◌≡◌, ◌==◌, ◌&&◌, [], ◌∷◌, ◌++◌, not, length, filter, map, OnOk, OnErr};
-ghost use Rattle.std.specs.List.{list_any};
-ghost use Rattle.chv_defs.specs.BankState.{lesser, lowest, lowest_pinner, pins_block, PinOut};
+ghost use Rattle.std.specs.Prelude.{◌≡◌, ◌+◌, ◌<◌, ◌≤◌, ◌^◌, ◌==◌, ◌&&◌, [], ◌++◌, ◌∷◌, not, length, find, filter, nat_lt, IfOk, OnOk, OnErr, vec_len};
+ghost use Rattle.std.specs.List.{list_any, prefix_len};
+ghost use Rattle.std.specs.Option.{option_map};
+ghost use Rattle.chv_defs.specs.BankState.{pins_block, PinOut};
+ghost use Rattle.chv_bank.specs.CallerPins.{first_pinner, has_pinned, is_other, is_row_of, total, with_pin, without_pin, AreRows, CallerPins};
 
 use crate::blocks::belongs;
 use chv_defs::Span;
@@ -48,19 +50,76 @@ impl Pinned {
     }
 }
 
-/// The outstanding pins, in the order in which they were made. Contracts see their list.
+/// A caller's outstanding pins, in the order in which they were made.
 #[derive(Drop)]
-pub struct Pins {
+struct PinRow {
+    caller: u32,
     pins: Vec<Pinned>,
 }
 
+impl Model for PinRow {
+    ghost use Rattle.chv_bank.specs.CallerPins.{CallerPins};
+
+    ghost Value = { CallerPins };
+
+    ghost view = { λ r. record { caller = r.caller; pins = r.pins.items } };
+}
+
+impl PinRow {
+    // A row of one pin.
+    fn of(alloc: Global, pin: Pinned) -> Result<PinRow, AllocError>
+        ensures { IfOk result (λ row. row ≡ record { caller = pin.caller; pins = pin ∷ [] }) }
+    {
+        let caller = pin.caller();
+        let mut pins = Vec::new(alloc);
+        pins.push(pin)?;
+        Ok(PinRow { caller, pins })
+    }
+
+    // Adds a pin, or leaves the row as it was.
+    fn add(&mut self, pin: Pinned) -> Result<(), AllocError>
+        ensures ok { OnOk result (self.new ≡ record self.old { pins = self.old.pins ++ pin ∷ [] }) }
+        ensures err { OnErr result (self.new ≡ self.old) }
+    {
+        self.pins.push(pin)?;
+        Ok(())
+    }
+
+    // Takes a caller's pin of a number out, and answers how many pins are fewer.
+    fn remove(&mut self, caller: u32, number: u32) -> usize
+        ensures others { self.new ≡ record self.old { pins = filter (is_other caller number) self.old.pins } }
+        ensures fewer { result + length self.new.pins ≡ length self.old.pins }
+    {
+        let before = self.pins.len();
+        remove_pin(&mut self.pins, caller, number);
+        before - self.pins.len()
+    }
+
+    // Whether a pin of the row pins a block of the bank.
+    fn pins_block(&self, bank: u8, block: u32) -> bool
+        ensures { result ≡ has_pinned bank block self.now }
+    {
+        any_pins(self.pins.as_slice(), bank, block)
+    }
+}
+
+/// The outstanding pins, those of each caller in a row of their own. Contracts see the rows, which ascend by caller.
+#[derive(Drop)]
+pub struct Pins {
+    alloc: Global,
+    rows: Vec<PinRow>,
+    count: usize,
+}
+
 impl Model for Pins {
-    ghost use Rattle.std.specs.Prelude.{List};
-    ghost use Rattle.chv_defs.specs.BankState.{PinOut};
+    ghost use Rattle.std.specs.Prelude.{◌≡◌, List};
+    ghost use Rattle.chv_bank.specs.CallerPins.{total, AreRows, CallerPins};
 
-    ghost Value = { List PinOut };
+    ghost Value = { List CallerPins };
 
-    ghost view = { λ p. p.pins.items };
+    ghost view = { λ p. p.rows.items };
+
+    ghost invariant = { λ p. AreRows 0 p.rows.items × (p.count ≡ total p.rows.items) };
 }
 
 impl Pins {
@@ -69,49 +128,54 @@ impl Pins {
         ensures { result ≡ [] }
     {
         Pins {
-            pins: Vec::new(alloc),
+            alloc,
+            rows: Vec::new(alloc),
+            count: 0,
         }
     }
 
     /// How many pins are outstanding.
     pub fn len(&self) -> usize
-        ensures { result ≡ length self.now }
+        ensures { result ≡ total self.now }
     {
-        self.pins.len()
+        self.count
     }
 
     /// Adds a pin, or leaves the pins as they were.
     pub fn push(&mut self, caller: u32, number: u32, span: Span) -> Result<(), AllocError>
-        ensures ok { OnOk result (self.new ≡ self.old ++ record { caller = caller; number = number; span = span } ∷ []) }
+        requires few { total self.old < 2 ^ 32 }
+        ensures ok { OnOk result (self.new ≡ with_pin self.old (record { caller = caller; number = number; span = span })) }
         ensures err { OnErr result (self.new ≡ self.old) }
     {
-        self.pins.push(Pinned {
+        let pin = Pinned {
             caller,
             number,
             span,
-        })?;
+        };
+        add_pin(self.alloc, &mut self.rows, pin)?;
+        self.count += 1;
         Ok(())
     }
 
     /// Takes a caller's pin of a number out. Takes no memory.
     pub fn remove(&mut self, caller: u32, number: u32)
-        ensures { self.new ≡ filter (λ (pin : PinOut). not ((caller == pin.caller) && (number == pin.number))) self.old }
+        ensures { self.new ≡ without_pin self.old caller number }
     {
-        remove_pin(&mut self.pins, caller, number);
+        self.count -= take_pin(&mut self.rows, caller, number);
     }
 
     /// Whether a pin pins a block of the bank.
     pub fn pins_block(&self, bank: u8, block: u32) -> bool
-        ensures { result ≡ list_any (pins_block bank block) self.now }
+        ensures { result ≡ list_any (has_pinned bank block) self.now }
     {
-        any_pins(self.pins.as_slice(), bank, block)
+        any_rows(self.rows.as_slice(), bank, block)
     }
 
     /// The lowest caller that pins a block of the bank, 0 where none does.
     pub fn lowest_pinner(&self, bank: u8, block: u32) -> u32
-        ensures { result ≡ lowest_pinner bank self.now block }
+        ensures { result ≡ first_pinner bank self.now block }
     {
-        match least_caller(self.pins.as_slice(), bank, block) {
+        match first_caller(self.rows.as_slice(), bank, block) {
             Some(caller) => caller,
             None => 0,
         }
@@ -119,11 +183,12 @@ impl Pins {
 }
 
 fn remove_pin(pins: &mut Vec<Pinned>, caller: u32, number: u32)
-    ensures { pins.new.items ≡ filter (λ (pin : PinOut). not ((caller == pin.caller) && (number == pin.number))) pins.old.items }
+    ensures items { pins.new.items ≡ filter (is_other caller number) pins.old.items }
+    ensures fewer { vec_len pins.new ≤ vec_len pins.old }
 {
     pins.retain(
         |pin: &Pinned| -> bool
-            ensures { result ≡ not ((caller == pin.now.caller) && (number == pin.now.number)) }
+            ensures { result ≡ is_other caller number pin.now }
         { !pin.is_of(caller, number) },
     );
 }
@@ -139,24 +204,80 @@ fn any_pins(pins: &[Pinned], bank: u8, block: u32) -> bool
     false
 }
 
-// The lowest caller among the pins that pin a block of the bank.
-fn least_caller(pins: &[Pinned], bank: u8, block: u32) -> Option<u32>
-    ensures { result ≡ lowest (map (λ (pin : PinOut). pin.caller) (filter (pins_block bank block) pins.now)) }
+fn any_rows(rows: &[PinRow], bank: u8, block: u32) -> bool
+    ensures { result ≡ list_any (has_pinned bank block) rows.now }
 {
-    let mut least = None;
-    for pin in pins {
-        if pin.pins_block(bank, block) {
-            least = lesser_of(least, pin.caller());
+    for row in rows {
+        if row.pins_block(bank, block) {
+            return true;
         }
     }
-    least
+    false
 }
 
-fn lesser_of(least: Option<u32>, caller: u32) -> Option<u32>
-    ensures { result ≡ Some (lesser caller least) }
+// The caller of the first row with a pin that pins a block of the bank.
+fn first_caller(rows: &[PinRow], bank: u8, block: u32) -> Option<u32>
+    ensures { result ≡ option_map (λ (row : CallerPins). row.caller) (find (has_pinned bank block) rows.now) }
 {
-    match least {
-        Some(other) => Some(caller.min(other)),
-        None => Some(caller),
+    for row in rows {
+        if row.pins_block(bank, block) {
+            return Some(row.caller);
+        }
+    }
+    None
+}
+
+// How many rows are of lower callers. They are the first ones.
+fn count_below(rows: &[PinRow], caller: u32) -> usize
+    requires { AreRows 0 rows.now }
+    ensures { result ≡ prefix_len (λ (row : CallerPins). nat_lt row.caller caller) rows.now }
+{
+    rows.partition_point(|row| is_below(row, caller))
+}
+
+fn is_below(row: &PinRow, caller: u32) -> bool
+    ensures { result ≡ nat_lt row.now.caller caller }
+{
+    row.caller < caller
+}
+
+// Whether the caller's row stands at the place.
+fn is_row_of(rows: &[PinRow], place: usize, caller: u32) -> bool
+    ensures { result ≡ is_row_of rows.now place caller }
+{
+    match rows.get(place) {
+        Some(row) => row.caller == caller,
+        None => false,
+    }
+}
+
+// Adds a pin to its caller's row, or leaves the rows as they were.
+fn add_pin(alloc: Global, rows: &mut Vec<PinRow>, pin: Pinned) -> Result<(), AllocError>
+    requires { AreRows 0 rows.old.items }
+    ensures ok { OnOk result (rows.new.items ≡ with_pin rows.old.items pin) }
+    ensures err { OnErr result (rows.new.items ≡ rows.old.items) }
+{
+    let caller = pin.caller();
+    let place = count_below(rows.as_slice(), caller);
+    if is_row_of(rows.as_slice(), place, caller) {
+        rows[place].add(pin)
+    } else {
+        let row = PinRow::of(alloc, pin)?;
+        rows.insert(place, row)?;
+        Ok(())
+    }
+}
+
+// Takes a caller's pin of a number out, and answers how many pins are fewer.
+fn take_pin(rows: &mut Vec<PinRow>, caller: u32, number: u32) -> usize
+    requires { AreRows 0 rows.old.items }
+    ensures rows { rows.new.items ≡ without_pin rows.old.items caller number }
+    ensures fewer { result + total rows.new.items ≡ total rows.old.items }
+{
+    let place = count_below(rows.as_slice(), caller);
+    if is_row_of(rows.as_slice(), place, caller) {
+        rows[place].remove(caller, number)
+    } else {
+        0
     }
 }

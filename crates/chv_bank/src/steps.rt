@@ -1,9 +1,10 @@
 // What each entry does to what is kept beside the history.
-ghost use Rattle.std.specs.Prelude.{◌≡◌, ◌+◌, ◌<◌, ◌≤◌, OnOk, OnErr, length};
+ghost use Rattle.std.specs.Prelude.{◌≡◌, ◌+◌, ◌<◌, ◌≤◌, ◌^◌, OnOk, OnErr, length};
 ghost use Rattle.chv_defs.specs.declared.bank.BankCall.TheVariants as call;
 ghost use Rattle.chv_defs.specs.declared.bank.BankReply.TheVariants as reply;
 ghost use Rattle.chv_defs.specs.BankState.{most_blocks, IsCall, IsInBlock, IsInZone};
 ghost use Rattle.chv_bank.specs.Caches.{IsFormed, Steps};
+ghost use Rattle.chv_bank.specs.CallerPins.{total};
 
 use crate::blocks::{clear_blocks, put_below, put_blocks};
 use crate::state::State;
@@ -115,6 +116,7 @@ pub fn pin(
     span: Span,
 ) -> Result<(), AllocError>
     requires formed { IsFormed state.old }
+    requires few { total state.old.pins < 2 ^ 32 }
     ensures ok { OnOk result (Steps bank state.old state.new caller (call.Pin number span) reply.Pinned) }
     ensures reserved { state.new.memory.reserved ≡ state.old.memory.reserved }
     ensures err { OnErr result (state.new ≡ state.old) }

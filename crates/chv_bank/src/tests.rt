@@ -1,4 +1,5 @@
 // An unplug from its pin to the next plug, the refusals in their order, and each call once with ample memory.
+ghost use Rattle.chv_defs.specs.declared.bank.BankCall.TheVariants as call;
 ghost use Rattle.std.specs.Prelude.{◌≡◌, IfOk, length};
 
 use super::*;
@@ -8,23 +9,27 @@ use std::test::Fail;
 
 #[test]
 fn an_unplug_waits_for_its_pin(rt: HostRuntime) -> Result<(), Fail> {
-    let span = Span { first: 1, count: 1 };
+    let span = Span {
+        first: 512,
+        count: 1,
+    };
     let mut bank = Bank::new(rt.alloc(), 0, 0)?;
     bank.room(5, 0)??;
-    bank.owner(&BankCall::Shape(2));
-    let pinned = bank.access(1, &BankCall::Pin { number: 7, span })??;
+    bank.owner(&BankCall::Shape(513));
+    let pinned = bank.access(18, &BankCall::Pin { number: 7, span })??;
     assert_eq!(rt; pinned, BankReply::Pinned);
     let busy = bank.owner(&BankCall::Seal(span));
     assert_eq!(rt;
         busy,
         BankReply::Busy {
-            block: 1,
-            caller: 1
+            block: 512,
+            caller: 18
         }
     );
-    bank.access(1, &BankCall::Unpin { number: 7 })??;
+    bank.access(18, &BankCall::Unpin { number: 7 })??;
     assert_eq!(rt; bank.owner(&BankCall::Seal(span)), BankReply::Sealed);
     assert_eq!(rt; bank.owner(&BankCall::Close(span)), BankReply::Closed);
+    assert_eq!(rt; bank.access(18, &read_of(512, 1))??, BankReply::Fault(512));
     Ok(())
 }
 
@@ -129,5 +134,127 @@ fn pages_are_filled_and_shown(rt: HostRuntime) -> Result<(), Fail> {
     bank.owner(&BankCall::Thaw);
     bank.owner(&BankCall::Wipe);
     assert!(rt; bank.pages()?.is_empty());
+    Ok(())
+}
+
+// A Read of the first bytes of a block.
+fn read_of(block: u32, len: u32) -> BankCall
+    ensures { result ≡ call.Read block 0 len }
+{
+    BankCall::Read {
+        block,
+        offset: 0,
+        len,
+    }
+}
+
+#[test]
+fn a_pin_needs_two_places(rt: HostRuntime) -> Result<(), Fail> {
+    let span = Span { first: 0, count: 1 };
+    let mut bank = Bank::new(rt.alloc(), 0, 0)?;
+    bank.room(1_048_573, 0)??;
+    bank.owner(&BankCall::Shape(1));
+    bank.access(1, &BankCall::Pin { number: 1, span })??;
+    assert_eq!(rt;
+        bank.access(2, &BankCall::Pin { number: 1, span })?.err(),
+        Some(Refusal::Full(Full {
+            book: BookId::Bank { zone: 0, bank: 0 },
+            entries: 1_048_575,
+            bytes: 0,
+        }))
+    );
+    assert_eq!(rt;
+        bank.access(1, &BankCall::Unpin { number: 1 })??,
+        BankReply::Done
+    );
+    assert!(rt; bank.access(2, &read_of(0, 1))?.is_ok());
+    Ok(())
+}
+
+#[test]
+fn a_byte_and_the_zeros_behind_it(rt: HostRuntime) -> Result<(), Fail> {
+    let alloc = rt.alloc();
+    let mut bank = Bank::new(alloc, 0, 0)?;
+    bank.room(1, 0)??;
+    bank.owner(&BankCall::Shape(256));
+    let write = BankCall::Write {
+        block: 0,
+        offset: 4096,
+        bytes: Bytes::of(alloc, &[0xab])?,
+    };
+    assert_eq!(rt; bank.access(1, &write)??, BankReply::Done);
+    let read = BankCall::Read {
+        block: 0,
+        offset: 4096,
+        len: 8,
+    };
+    assert_eq!(rt;
+        bank.access(2, &read)??,
+        BankReply::Got(Bytes::of(alloc, &[0xab, 0, 0, 0, 0, 0, 0, 0])?)
+    );
+    Ok(())
+}
+
+#[test]
+fn a_pin_on_the_last_block_seals_none(rt: HostRuntime) -> Result<(), Fail> {
+    let span = Span {
+        first: 512,
+        count: 4,
+    };
+    let last = Span {
+        first: 515,
+        count: 1,
+    };
+    let mut bank = Bank::new(rt.alloc(), 0, 0)?;
+    bank.room(2, 0)??;
+    bank.owner(&BankCall::Shape(516));
+    let pin = BankCall::Pin {
+        number: 1,
+        span: last,
+    };
+    bank.access(18, &pin)??;
+    assert_eq!(rt;
+        bank.owner(&BankCall::Seal(span)),
+        BankReply::Busy {
+            block: 515,
+            caller: 18
+        }
+    );
+    assert!(rt; bank.access(1, &read_of(512, 1))?.is_ok());
+    Ok(())
+}
+
+#[test]
+fn an_access_after_an_unseal(rt: HostRuntime) -> Result<(), Fail> {
+    let span = Span { first: 0, count: 1 };
+    let mut bank = Bank::new(rt.alloc(), 0, 0)?;
+    bank.room(3, 0)??;
+    bank.owner(&BankCall::Shape(1));
+    assert_eq!(rt; bank.owner(&BankCall::Seal(span)), BankReply::Sealed);
+    bank.owner(&BankCall::Unseal(span));
+    assert!(rt; bank.access(1, &read_of(0, 1))?.is_ok());
+    Ok(())
+}
+
+#[test]
+fn sealed_before_full(rt: HostRuntime) -> Result<(), Fail> {
+    let span = Span { first: 0, count: 1 };
+    let mut bank = Bank::new(rt.alloc(), 0, 0)?;
+    bank.room(1_048_576, 0)??;
+    bank.owner(&BankCall::Shape(1));
+    bank.owner(&BankCall::Seal(span));
+    assert_eq!(rt;
+        bank.access(1, &read_of(0, 1))?.err(),
+        Some(Refusal::Sealed { block: 0, seen: 2 })
+    );
+    bank.owner(&BankCall::Unseal(span));
+    assert_eq!(rt;
+        bank.access(1, &read_of(0, 1))?.err(),
+        Some(Refusal::Full(Full {
+            book: BookId::Bank { zone: 0, bank: 0 },
+            entries: 1_048_576,
+            bytes: 0,
+        }))
+    );
     Ok(())
 }

@@ -1,5 +1,5 @@
 -- Bytes that are all zero.
-use Rattle.std.proofs.Common.{◌≡◌, ℕ, Bool, true, List, [], ◌∷◌, refl, zero, suc, replicate}
+use Rattle.std.proofs.Common.{◌≡◌, ℕ, true, refl, zero, suc, replicate}
 use Rattle.chv_defs.specs.PageContents.{is_blank}
 
 pub is_blank-replicate : (n : ℕ) → is_blank (replicate n 0) ≡ true

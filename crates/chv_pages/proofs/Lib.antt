@@ -4,3 +4,4 @@ pub mod Places
 pub mod Puts
 pub mod Writes
 pub mod Views
+pub mod Search

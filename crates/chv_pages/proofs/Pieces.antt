@@ -1,6 +1,6 @@
 -- Bytes that lie in one page.
-use Rattle.std.proofs.Common.{◌≡◌, ℕ, ◌+◌, ◌-◌, ◌*◌, ◌/◌, ◌%◌, ◌<◌, ◌≤◌, Bool, true, false, List, [], ◌∷◌, refl, sym, ◌∙◌, ap, subst, arith, length, get_or, set, take, drop, suc, zero, inl, inr}
-use Rattle.std.specs.Prelude.{cond, ◌==◌, ◌&&◌, nat_lt, nat_le, slice_index, slice_range}
+use Rattle.std.proofs.Common.{◌≡◌, ℕ, ◌+◌, ◌-◌, ◌*◌, ◌/◌, ◌%◌, ◌<◌, ◌≤◌, Bool, true, false, List, [], ◌∷◌, refl, sym, ◌∙◌, ap, arith, length, get_or, set, drop, suc, zero, inl, inr}
+use Rattle.std.specs.Prelude.{cond, ◌==◌, ◌&&◌, slice_index, slice_range}
 use Rattle.std.proofs.lemmas.Bool.{false_from_ne_true, cases_lt}
 use Rattle.std.proofs.lemmas.Bool.Decides.{nat_tests}
 use Rattle.std.proofs.lemmas.List.{get_or-drop, get_or-take, length-take, length-drop}

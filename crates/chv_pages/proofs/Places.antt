@@ -1,40 +1,10 @@
 -- The page with a number among pages that are held.
-use Rattle.std.proofs.Common.{◌≡◌, ◌≢◌, ℕ, ◌+◌, ◌-◌, ◌*◌, ◌/◌, ◌%◌, ◌<◌, ◌≤◌, Bool, true, false, List, [], ◌∷◌, ◌++◌, Option, None, Some, refl, sym, ◌∙◌, ap, subst, arith, length, get_or, set, suc, zero}
-use Rattle.std.specs.Prelude.{cond, ◌==◌, ◌||◌, ◌&&◌, not, nat_lt, MatchOption, position, map, slice_index}
-use Rattle.std.specs.List.{position_or_len}
+use Rattle.std.proofs.Common.{◌≡◌, ℕ, ◌+◌, ◌%◌, ◌<◌, Bool, true, false, List, [], ◌∷◌, refl, sym, ◌∙◌, ap, subst, arith, length, get_or, set, suc, zero}
+use Rattle.std.specs.Prelude.{cond, ◌==◌, ◌||◌, map, slice_index}
 use Rattle.std.proofs.lemmas.Bool.{eqb-false, eq-eqb}
 use Rattle.std.proofs.lemmas.Bool.Decides.{nat_tests}
 use Rattle.chv_pages.specs.declared.held.Held.{Held}
 use Rattle.chv_pages.specs.HeldPages.{has_number, held_at, is_address, IsAt, AreHeld}
-
--- whether a page has the number
-has : ℕ → Held → Bool
-has number h = h.number == number
-
--- what stands at the first place, or no place
-pub record IsPlace (held : List Held) (number place : ℕ) : Type 0 where
-  pub found : place < length held → IsAt held place number
-  pub none : length held ≤ place → has_number held number ≡ false
-
-place-is : (held : List Held) (number : ℕ) → IsPlace held number (position_or_len (λ h. h.number == number) held)
-place-is [] number = record { found = λ h. absurd (omega arith); none = λ h. refl }
-place-is (h ∷ hs) number = by (h.number == number) refl (place-is hs number)
-  where
-    by : (b : Bool) → (h.number == number) ≡ b → IsPlace hs number (position_or_len (λ h. h.number == number) hs) → IsPlace (h ∷ hs) number (cond (not b) (1 + position_or_len (λ h. h.number == number) hs) 0)
-    by true e r = record { found = λ small. grind (arith, nat_tests); none = λ small. absurd (omega arith) }
-    by false e r =
-        let next : suc (position_or_len (λ h. h.number == number) hs) ≡ 1 + position_or_len (λ h. h.number == number) hs = omega arith in
-        subst (IsPlace (h ∷ hs) number) next (record {
-          found = λ small. (eqb-false h.number number e, r.found (omega arith));
-          none = λ large. ap (λ b. b || has_number hs number) e ∙ r.none (omega arith);
-        })
-
-pub position-is : (held : List Held) (number : ℕ) → MatchOption (position (λ h. h.number == number) held) (has_number held number ≡ false) (λ place. (place < length held) × IsAt held place number)
-position-is held number = by (nat_lt (position_or_len (λ h. h.number == number) held) (length held)) refl
-  where
-    by : (b : Bool) → nat_lt (position_or_len (λ h. h.number == number) held) (length held) ≡ b → MatchOption (cond b (Some (position_or_len (λ h. h.number == number) held)) None) (has_number held number ≡ false) (λ place. (place < length held) × IsAt held place number)
-    by true e = let small : position_or_len (λ h. h.number == number) held < length held = grind (arith, nat_tests) in (small, (place-is held number).found small)
-    by false e = (place-is held number).none (grind (arith, nat_tests))
 
 -- ---- what stands at its place
 

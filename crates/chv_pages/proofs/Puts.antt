@@ -1,10 +1,9 @@
 -- Pages that are put at their number.
-use Rattle.std.proofs.Common.{◌≡◌, ◌≢◌, ℕ, ◌+◌, ◌-◌, ◌*◌, ◌/◌, ◌%◌, ◌<◌, ◌≤◌, Bool, true, false, List, [], ◌∷◌, ◌++◌, Option, None, Some, refl, sym, ◌∙◌, ap, subst, arith, length, get_or, set, take, drop, suc, zero}
-use Rattle.std.specs.Prelude.{cond, ◌==◌, ◌||◌, ◌&&◌, not, nat_lt, insert, slice_get, slice_index}
+use Rattle.std.proofs.Common.{◌≡◌, ℕ, ◌+◌, ◌/◌, ◌%◌, ◌<◌, ◌≤◌, Bool, true, false, List, [], ◌∷◌, None, Some, refl, sym, ◌∙◌, ap, subst, arith, length, set, suc}
+use Rattle.std.specs.Prelude.{cond, ◌==◌, ◌||◌, nat_lt, insert, slice_index}
 use Rattle.std.specs.List.{prefix_len, cons_option}
 use Rattle.std.proofs.lemmas.List.Sums.{prefix_len-le-length}
 use Rattle.chv_pages.proofs.Places.{one_address}
-use Rattle.std.specs.Option.{option_map_or}
 use Rattle.std.proofs.lemmas.Bool.Decides.{nat_tests}
 use Rattle.chv_defs.specs.PageContents.{is_blank}
 use Rattle.chv_pages.specs.declared.held.Held.{Held}

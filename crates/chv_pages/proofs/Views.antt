@@ -1,19 +1,18 @@
 -- What the pages that are shown tell of the pages that are held.
-use Rattle.std.proofs.Common.{◌≡◌, ◌≢◌, ℕ, ◌+◌, ◌-◌, ◌*◌, ◌/◌, ◌%◌, ◌<◌, ◌≤◌, Bool, true, false, List, [], ◌∷◌, ◌++◌, Option, None, Some, refl, sym, ◌∙◌, ap, subst, arith, length, get_or, take, drop, suc, zero, inl, inr, zero-add}
+use Rattle.std.proofs.Common.{◌≡◌, ℕ, ◌+◌, ◌-◌, ◌*◌, ◌/◌, ◌%◌, ◌<◌, ◌≤◌, Bool, true, false, List, [], ◌∷◌, None, Some, refl, sym, ◌∙◌, ap, subst, arith, length, get_or, suc, zero, zero-add}
 use Rattle.std.specs.Prelude.{cond, ◌==◌, ◌&&◌, not, map, filter, slice_index}
-use Rattle.std.specs.List.{filter_map, cons_option, range_with_len, list_all}
-use Rattle.std.proofs.lemmas.Bool.{cases_lt, cases_order, eqb-false}
+use Rattle.std.specs.List.{filter_map, cons_option, range_with_len}
+use Rattle.std.proofs.lemmas.Bool.{eqb-false}
 use Rattle.std.proofs.lemmas.Bool.Decides.{nat_tests}
 use Rattle.std.proofs.lemmas.List.{ext_get_or}
 use Rattle.std.proofs.lemmas.List.FromFn.{get_or-map-range_with_len, length-map-range_with_len}
-use Rattle.chv_defs.specs.declared.bank.PageAt.{PageAt}
-use Rattle.chv_defs.specs.PageContents.{Contents, byte_at, byte_of, bytes_at, is_blank, is_inside, is_page_at, page_bytes, page_numbered, pages_of, Writes, Fills, Clears}
+use Rattle.chv_defs.specs.PageContents.{Contents, byte_at, byte_of, bytes_at, is_blank, is_inside, page_bytes, page_numbered, pages_of, Writes, Fills, Clears}
 use Rattle.chv_pages.specs.Copies.{CopiedAt}
 use Rattle.chv_pages.specs.declared.held.Held.{Held}
-use Rattle.chv_pages.specs.HeldPages.{has_number, held_at, is_address, put, shown, visible, AreHeld, MakesRoom, WritesHeld}
+use Rattle.chv_pages.specs.HeldPages.{held_at, is_address, put, shown, visible, AreHeld, MakesRoom, WritesHeld}
 use Rattle.chv_pages.proofs.Places.{one_address}
 use Rattle.chv_pages.proofs.Puts.{put-read, put-keeps}
-use Rattle.chv_pages.proofs.Pieces.{address_parts, address_true, inside_true, outside_below, outside_above}
+use Rattle.chv_pages.proofs.Pieces.{address_parts, address_true, inside_true}
 
 -- a page of zeros reads as 0
 blank-read : (bytes : List ℕ) (k : ℕ) → is_blank bytes ≡ true → slice_index bytes k ≡ 0

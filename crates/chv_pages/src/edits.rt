@@ -3,6 +3,7 @@ ghost use Rattle.std.specs.Prelude.{◌≡◌, ◌==◌, ◌+◌, ◌-◌, ◌*�
 ghost use Rattle.std.specs.Vec.{vec_capacity};
 ghost use Rattle.chv_defs.specs.PageContents.{is_inside};
 ghost use Rattle.chv_pages.specs.HeldPages.{has_number, held_at, is_address, put, visible, AreHeld, MakesRoom, WritesHeld};
+ghost use Rattle.chv_pages.specs.Order.{AreInOrder};
 
 use crate::held::Held;
 use crate::page::{PAGE_BYTES, Page};
@@ -11,7 +12,8 @@ use std::alloc::{AllocError, Global};
 
 /// Puts a page at its number, in place of the one that has it. Takes no memory.
 pub fn put_page(held: &mut Vec<Held>, number: u64, page: Page)
-    requires { vec_len held.old < vec_capacity held.old }
+    requires order { AreInOrder held.old.items }
+    requires room { vec_len held.old < vec_capacity held.old }
     ensures items { held.new.items ≡ put held.old.items number page }
     ensures len { vec_len held.new ≤ vec_len held.old + 1 }
     ensures room { vec_capacity held.old ≤ vec_capacity held.new }
@@ -34,8 +36,10 @@ pub fn hold_page(
     number: u64,
     spare: usize,
 ) -> Result<(), AllocError>
+    requires order { AreInOrder held.old.items }
     requires fits { vec_len held.old + spare ≤ vec_capacity held.old }
     requires small { spare < 2 ^ 62 }
+    ensures order { AreInOrder held.new.items }
     ensures room { vec_len held.new + spare ≤ vec_capacity held.new }
     ensures same { MakesRoom held.old.items held.new.items }
     ensures keeps { (high : ℕ) → number < high → AreHeld 0 high held.old.items → AreHeld 0 high held.new.items }
@@ -60,8 +64,10 @@ pub fn hold_range(
     spare: usize,
 ) -> Result<(), AllocError>
     requires inside { offset + len ≤ 2097152 }
+    requires order { AreInOrder held.old.items }
     requires fits { vec_len held.old + spare ≤ vec_capacity held.old }
     requires small { spare < 2 ^ 62 }
+    ensures order { AreInOrder held.new.items }
     ensures room { vec_len held.new + spare ≤ vec_capacity held.new }
     ensures same { MakesRoom held.old.items held.new.items }
     ensures keeps { (high : ℕ) → block * 512 + 512 ≤ high → AreHeld 0 high held.old.items → AreHeld 0 high held.new.items }
@@ -77,6 +83,7 @@ pub fn hold_range(
 
 /// Writes bytes into a block from an offset on, where the pages are held. Takes no memory.
 pub fn write_held(held: &mut [Held], block: u32, offset: usize, from: &[u8])
+    requires order { AreInOrder held.old }
     requires inside { offset + length from.now ≤ 2097152 }
     requires there { (k : ℕ) → k < length from.now → has_number held.old (block * 512 + (offset + k) / 4096) ≡ true }
     ensures { WritesHeld held.old held.new block offset from.now }
@@ -91,6 +98,7 @@ pub fn write_held(held: &mut [Held], block: u32, offset: usize, from: &[u8])
 
 // Writes bytes that lie in one page.
 fn write_piece(held: &mut [Held], block: u32, offset: usize, from: &[u8])
+    requires order { AreInOrder held.old }
     requires inside { offset < 2097152 }
     requires page { offset % 4096 + length from.now ≤ 4096 }
     requires there { has_number held.old (block * 512 + offset / 4096) ≡ true }

@@ -1,8 +1,9 @@
 // Looking pages up, and reading them.
-ghost use Rattle.std.specs.Prelude.{◌≡◌, ◌==◌, ◌+◌, ◌-◌, ◌*◌, ◌<◌, ◌≤◌, ◌/◌, ◌%◌, ℕ, nat_lt, false, length, min, position, slice_index, MatchOption};
+ghost use Rattle.std.specs.Prelude.{◌≡◌, ◌==◌, ◌+◌, ◌-◌, ◌*◌, ◌<◌, ◌≤◌, ◌/◌, ◌%◌, ℕ, nat_lt, false, length, min, slice_index, MatchOption};
 ghost use Rattle.std.specs.List.{prefix_len};
 ghost use Rattle.chv_defs.specs.PageContents.{is_inside};
 ghost use Rattle.chv_pages.specs.HeldPages.{has_number, held_at, is_there, IsAt};
+ghost use Rattle.chv_pages.specs.Order.{AreInOrder};
 
 use crate::copies::{clear_at, copy_at};
 use crate::held::Held;
@@ -20,34 +21,38 @@ pub fn number_of(block: u32, offset: usize) -> u64
 
 /// The place of the page with a number.
 pub fn find(held: &[Held], number: u64) -> Option<usize>
+    requires { AreInOrder held.now }
     ensures { MatchOption result (has_number held.now number ≡ false) (λ place. (place < length held.now) × IsAt held.now place number) }
 {
-    position_of(held, number)
+    let place = place_of(held, number);
+    if is_there(held, place, number) {
+        Some(place)
+    } else {
+        None
+    }
 }
 
 /// Whether the page with a number is held.
 pub fn has_page(held: &[Held], number: u64) -> bool
+    requires { AreInOrder held.now }
     ensures { result ≡ has_number held.now number }
 {
-    held.iter().any(|h| h.number == number)
-}
-
-fn position_of(held: &[Held], number: u64) -> Option<usize>
-    ensures { result ≡ position (λ h. h.number == number) held.now }
-{
-    held.iter().position(|h| h.number == number)
+    is_there(held, place_of(held, number), number)
 }
 
 /// The place of the first page whose number is not below a number.
 pub fn place_of(held: &[Held], number: u64) -> usize
+    requires { AreInOrder held.now }
     ensures { result ≡ prefix_len (λ h. nat_lt h.number number) held.now }
 {
-    for (place, h) in held.iter().enumerate() {
-        if h.number >= number {
-            return place;
-        }
-    }
-    held.len()
+    held.partition_point(|h| is_below(h, number))
+}
+
+// Whether a page's number is below a number.
+fn is_below(held: &Held, number: u64) -> bool
+    ensures { result ≡ nat_lt held.now.number number }
+{
+    held.number < number
 }
 
 /// Whether a page with the number stands at the place.
@@ -69,7 +74,8 @@ pub fn piece_len(offset: usize, len: usize) -> usize
 
 /// Reads a block from an offset on.
 pub fn read_held(held: &[Held], block: u32, offset: usize, into: &mut [u8])
-    requires { offset + length into.old ≤ 2097152 }
+    requires order { AreInOrder held.now }
+    requires inside { offset + length into.old ≤ 2097152 }
     ensures len { length into.new ≡ length into.old }
     ensures read { (k : ℕ) → k < length into.old → slice_index into.new k ≡ held_at held.now block (offset + k) }
 {
@@ -83,6 +89,7 @@ pub fn read_held(held: &[Held], block: u32, offset: usize, into: &mut [u8])
 
 // Reads a part of the bytes that lies in one page.
 fn read_piece(held: &[Held], block: u32, offset: usize, into: &mut [u8], done: usize, len: usize)
+    requires order { AreInOrder held.now }
     requires inside { offset + length into.old ≤ 2097152 }
     requires part { done + len ≤ length into.old }
     requires some { 0 < len }

@@ -1,4 +1,4 @@
-use Rattle.std.proofs.Common.{◌≡◌, ℕ, ◌+◌, ◌<◌, ◌≤◌, length, get_or}
+use Rattle.std.proofs.Common.{◌≡◌, ℕ, ◌+◌, ◌<◌, ◌≤◌, get_or}
 use Rattle.chv_pages.proofs.copies.copy_at.Given as goal
 
 abbrev pub invariant-loop-k : goal.invariant-loop-k

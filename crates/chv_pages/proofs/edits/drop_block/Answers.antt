@@ -1,4 +1,4 @@
-use Rattle.std.proofs.Common.{◌≡◌, ◌/◌, rules}
+use Rattle.std.proofs.Common.{◌/◌, rules}
 use Rattle.std.specs.Prelude.{not, ◌==◌}
 use Rattle.chv_pages.specs.declared.held.Held.{Held}
 use Rattle.std.proofs.lemmas.Fn.{filter_same}

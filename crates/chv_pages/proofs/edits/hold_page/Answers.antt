@@ -1,8 +1,11 @@
-use Rattle.std.proofs.Common.{arith, ◌≡◌, ◌∙◌, ap, sym, subst, false, List}
-use Rattle.chv_pages.specs.declared.held.Held.{Held}
-use Rattle.chv_pages.specs.HeldPages.{has_number, MakesRoom, AreHeld, put}
+use Rattle.std.proofs.Common.{arith, ◌≡◌, ◌∙◌, ap, sym, false}
+use Rattle.chv_pages.specs.HeldPages.{has_number}
 use Rattle.chv_pages.proofs.Puts.{put-has-it, put-keeps, makes-room}
+use Rattle.chv_pages.proofs.Search.{put-order}
 use Rattle.chv_pages.proofs.edits.hold_page.Goals as goal
+
+pub returns-clause-order : goal.returns-clause-order
+returns-clause-order c = rw (c.put_page.ensures.items, c.in_ok-reserve.ensures.items) (put-order c.args.held.now.items c.args.number c.in_ok-page.page c.requires.order)
 
 pub returns-clause-same : goal.returns-clause-same
 returns-clause-same c =

@@ -1,5 +1,4 @@
-use Rattle.std.proofs.Common.{arith, length, ◌≤◌, sym, ◌∙◌, ap, ◌≡◌}
-use Rattle.std.specs.Prelude.{vec_len}
+use Rattle.std.proofs.Common.{arith, length, ◌≤◌}
 use Rattle.chv_pages.proofs.Puts.{put-set-at, put-insert-at, place-le}
 use Rattle.chv_pages.proofs.edits.put_page.Goals as goal
 

@@ -1,4 +1,4 @@
-use Rattle.std.proofs.Common.{◌≡◌, ℕ, ◌+◌, ◌-◌, ◌<◌, ◌≤◌, length, take}
+use Rattle.std.proofs.Common.{◌-◌, ◌≤◌, length, take}
 use Rattle.chv_pages.specs.HeldPages.{WritesHeld}
 use Rattle.chv_pages.proofs.edits.write_held.Given as goal
 

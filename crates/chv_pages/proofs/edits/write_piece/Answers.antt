@@ -1,4 +1,4 @@
-use Rattle.std.proofs.Common.{arith, ◌≡◌, ◌∙◌, ap, subst, ℕ, ◌+◌, ◌*◌, ◌/◌, true, sym}
+use Rattle.std.proofs.Common.{◌≡◌, ◌∙◌, ap, subst, ℕ, ◌+◌, ◌*◌, ◌/◌, true}
 use Rattle.chv_pages.specs.HeldPages.{IsAt, has_number}
 use Rattle.chv_pages.proofs.Pieces.{writes-piece, at-number}
 use Rattle.chv_pages.proofs.edits.write_piece.Goals as goal

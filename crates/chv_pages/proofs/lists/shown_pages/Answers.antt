@@ -1,4 +1,4 @@
-use Rattle.std.proofs.Common.{arith, ◌<◌, ◌*◌, ◌^◌, ◌≡◌, get_or, subst, sym, ap}
+use Rattle.std.proofs.Common.{arith, ◌<◌, ◌*◌, get_or, ap}
 use Rattle.chv_pages.specs.declared.held.Held.{Held}
 use Rattle.chv_pages.proofs.Views.{below-end}
 use Rattle.chv_pages.proofs.lists.shown_pages.Goals as goal

@@ -3,6 +3,7 @@ use Rattle.std.specs.Vec.{vec_capacity}
 use Rattle.std.proofs.lemmas.Grind.{common_steps}
 use Rattle.chv_defs.specs.LegalBank.{access_reply}
 use Rattle.chv_bank.specs.Bank.{BankBook, with_entry, refusal_of, HasItsNumber}
+use Rattle.chv_bank.specs.CallerPins.{total}
 use Rattle.chv_bank.specs.declared.bank.Bank.TheInside.{Inside}
 use Rattle.chv_bank.proofs.KeptSteps.{access-kept, IsKept-roomier, seen}
 use Rattle.chv_bank.proofs.bank.Bank.enter.Goals as goal
@@ -40,7 +41,7 @@ invariant_of-self-2 c =
     let answer : c.in_ok-answer.answer ≡ access_reply old.bank old.history.items c.args.call.now = c.in_ok-answer.ensures old.history.items c.self.invariant.state in
     let grown : c.push.new.self.items ≡ with_entry old.history.items c.args.caller c.args.call.now c.in_ok-answer.answer = grind (arith, common_steps, c.in_ok-copy_call.ensures, c.in_ok-copy_reply.ensures, c.reserve.ensures.items) in
     let more : vec_len c.reserve.new.self + (old.reserved + c.len.result + 2) ≤ vec_capacity c.reserve.new.self = c.in_ok-reserve.ensures.ok in
-    let room : length old.history.items + old.reserved + length old.state.pins + 2 ≤ vec_capacity c.push.new.self = omega (arith, more, c.len.ensures, c.reserve.new.self.ok.0, ap length c.reserve.ensures.items, c.push.ensures.capacity) in
+    let room : length old.history.items + old.reserved + total old.state.pins + 2 ≤ vec_capacity c.push.new.self = omega (arith, more, c.len.ensures, c.reserve.new.self.ok.0, ap length c.reserve.ensures.items, c.push.ensures.capacity) in
     access-kept old (record { alloc = old.alloc; zone = old.zone; bank = old.bank; state = c.leave.new.state; history = c.push.new.self; payload = old.payload + c.payload_of.result; reserved = old.reserved; sheets = old.sheets })
     c.args.caller c.args.call.now c.in_ok-answer.answer c.self.invariant c.requires.caller c.requires.access c.requires.no_unpin number due answer c.in_ok-leave.ensures.ok refl grown
     (ap (λ n. old.payload + n) c.payload_of.ensures) refl c.leave.ensures.reserved refl room

@@ -3,6 +3,7 @@ use Rattle.chv_defs.specs.declared.bank.BankEntry.{BankEntry}
 use Rattle.chv_defs.specs.BankState.{payload}
 use Rattle.chv_defs.specs.LegalBank.{IsLegal}
 use Rattle.chv_bank.specs.Caches.{IsStateAfter}
+use Rattle.chv_bank.specs.CallerPins.{total}
 use Rattle.chv_bank.proofs.Appended.{IsLegal-none}
 use Rattle.chv_bank.proofs.bank.Bank.new.Goals as goal
 
@@ -11,7 +12,7 @@ invariant_of-result c =
     let none : [] ≡ c.new-2.result.items = sym c.new-2.ensures.items in
     let state : IsStateAfter c.args.bank [] c.in_ok-state.state = c.in_ok-state.ensures.state c.args.bank in
     let long : length c.new-2.result.items ≡ 0 = ap length c.new-2.ensures.items in
-    let pins : length c.in_ok-state.state.pins ≡ 0 = ap length state.pins in
+    let pins : total c.in_ok-state.state.pins ≡ 0 = state.pins.counted in
     let sheets : c.none.result ≡ 0 = c.none.ensures in
     record {
       bank_known = c.requires;

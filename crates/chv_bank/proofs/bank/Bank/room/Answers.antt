@@ -4,6 +4,7 @@ use Rattle.chv_defs.specs.PageContents.{Contents}
 use Rattle.chv_defs.specs.BankState.{pins_of}
 use Rattle.chv_bank.specs.Bank.{BankBook, passes_limit}
 use Rattle.chv_bank.specs.Caches.{IsStateAfter}
+use Rattle.chv_bank.specs.CallerPins.{total}
 use Rattle.chv_bank.specs.declared.bank.Bank.TheInside.{Inside}
 use Rattle.chv_bank.proofs.KeptSteps.{IsKept-roomier, IsKept-like, IsStateAfter-memory, below_limits, seen}
 use Rattle.chv_bank.proofs.bank.Bank.room.Goals as goal
@@ -33,7 +34,7 @@ invariant_of-self-2 c =
     let none : old.sheets ≡ 0 = ap (λ (b : BankBook). b.pages) c.self.view_is ∙ c.requires in
     let reserved : c.reserve-2.new.self.reserved ≡ old.state.memory.reserved + c.args.pages = ap (λ (m : Contents). m.reserved) made in
     let sheets : c.in_ok-sheets.sheets ≡ c.args.pages = c.in_ok-sheets.ensures in
-    let pins : length old.state.pins ≡ length (pins_of old.history.items) = ap length c.self.invariant.state.pins in
+    let pins : total old.state.pins ≡ length (pins_of old.history.items) = c.self.invariant.state.pins.counted in
     let more : vec_len c.reserve.new.self + (old.reserved + c.len.result + c.args.entries) ≤ vec_capacity c.reserve.new.self = c.in_ok-reserve.ensures.ok in
     IsKept-like old (record { alloc = old.alloc; zone = old.zone; bank = old.bank; state = record old.state { memory = c.reserve-2.new.self }; history = c.reserve.new.self; payload = old.payload; reserved = old.reserved + c.args.entries; sheets = c.in_ok-sheets.sheets })
     c.self.invariant refl c.reserve.ensures.items state refl

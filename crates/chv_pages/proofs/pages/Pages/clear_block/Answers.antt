@@ -1,5 +1,4 @@
-use Rattle.std.proofs.Common.{arith, ◌≡◌, ap, ◌∙◌, sym, subst, ◌*◌, List, vec_len, refl}
-use Rattle.chv_defs.specs.PageContents.{Contents, Clears}
+use Rattle.std.proofs.Common.{arith, sym, subst, ◌*◌, List, vec_len, refl}
 use Rattle.chv_pages.specs.declared.held.Held.{Held}
 use Rattle.chv_pages.specs.HeldPages.{visible, AreHeld}
 use Rattle.chv_pages.proofs.Views.{clears-are, filter-keeps}

@@ -1,4 +1,4 @@
-use Rattle.std.proofs.Common.{◌≡◌, ap, ◌∙◌, sym, length}
+use Rattle.std.proofs.Common.{◌≡◌, ap, ◌∙◌, sym}
 use Rattle.chv_defs.specs.PageContents.{Contents}
 use Rattle.chv_pages.specs.HeldPages.{visible}
 use Rattle.chv_pages.proofs.Views.{shown-are}

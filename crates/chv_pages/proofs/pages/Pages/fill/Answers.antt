@@ -1,10 +1,14 @@
-use Rattle.std.proofs.Common.{arith, ◌≡◌, ap, ◌∙◌, sym, subst, ◌*◌, ◌+◌, ◌/◌, ◌<◌, List, vec_len, refl, length}
+use Rattle.std.proofs.Common.{arith, ◌≡◌, ap, ◌∙◌, sym, subst, ◌*◌, ◌+◌, ◌<◌, List, vec_len, refl}
 use Rattle.chv_defs.specs.PageContents.{Contents, Fills}
 use Rattle.chv_pages.specs.declared.held.Held.{Held}
 use Rattle.chv_pages.specs.HeldPages.{visible, AreHeld, put}
 use Rattle.chv_pages.proofs.Puts.{put-keeps}
 use Rattle.chv_pages.proofs.Views.{fills-are, whole-page}
+use Rattle.chv_pages.proofs.Search.{in-order}
 use Rattle.chv_pages.proofs.pages.Pages.fill.Goals as goal
+
+pub put_page-requires-clause-order : goal.put_page-requires-clause-order
+put_page-requires-clause-order c = in-order 0 (c.self.inside.blocks * 512) c.self.inside.held.items c.self.invariant.0
 
 pub invariant_of-self : goal.invariant_of-self
 invariant_of-self c =

@@ -1,9 +1,13 @@
-use Rattle.std.proofs.Common.{arith, ◌≡◌, ap, ◌∙◌, sym, ◌+◌, ◌*◌, ◌<◌, ℕ, length}
-use Rattle.std.specs.Prelude.{slice_index}
+use Rattle.std.proofs.Common.{◌≡◌, ap, ◌∙◌, sym, subst, ◌+◌, ◌*◌, length}
 use Rattle.chv_defs.specs.PageContents.{Contents}
 use Rattle.chv_pages.specs.HeldPages.{held_at, visible}
 use Rattle.chv_pages.proofs.Views.{bytes-are}
+use Rattle.chv_pages.specs.Order.{AreInOrder}
+use Rattle.chv_pages.proofs.Search.{in-order}
 use Rattle.chv_pages.proofs.pages.Pages.read.Goals as goal
+
+pub read_held-requires-clause-order : goal.read_held-requires-clause-order
+read_held-requires-clause-order c = subst AreInOrder (sym c.as_slice.ensures.value) (in-order 0 (c.self.inside.blocks * 512) c.self.inside.held.items c.self.invariant.0)
 
 pub returns : goal.returns
 returns c =

@@ -5,7 +5,11 @@ use Rattle.chv_defs.specs.PageContents.{Contents, Writes}
 use Rattle.chv_pages.specs.declared.held.Held.{Held}
 use Rattle.chv_pages.specs.HeldPages.{visible, AreHeld, WritesHeld}
 use Rattle.chv_pages.proofs.Views.{writes-are}
+use Rattle.chv_pages.proofs.Search.{in-order}
 use Rattle.chv_pages.proofs.pages.Pages.write.Goals as goal
+
+pub hold_range-requires-clause-order : goal.hold_range-requires-clause-order
+hold_range-requires-clause-order c = in-order 0 (c.self.inside.blocks * 512) c.self.inside.held.items c.self.invariant.0
 
 pub returns-clause-ok : goal.returns-clause-ok
 returns-clause-ok c =
