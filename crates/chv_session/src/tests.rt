@@ -193,48 +193,49 @@ fn replies(rt: HostRuntime) -> Result<(), Fail> {
     Ok(())
 }
 
+/// A stream, the call of the connection that fails, the calls behind which the run stops, and the turns; then the end,
+/// and the number of calls.
+const ENDS: [(&[u8], u64, usize, usize, SessionEnd, usize); 17] = [
+    (b"", 0, 9, 9, SessionEnd::Ended, 1),
+    (
+        b"PUT /api/v1/vm.boot HTTP/1.1\r\nContent-Length: 5\r\n\r\nhel",
+        0,
+        9,
+        9,
+        SessionEnd::Cut,
+        1,
+    ),
+    // The Bye has a turn of its own behind a last request, and behind bytes that are refused.
+    (LAST, 0, 9, 1, SessionEnd::Stopped, 1),
+    (LAST, 0, 9, 2, SessionEnd::Closed, 2),
+    (LAST, 0, 1, 9, SessionEnd::Stopped, 1),
+    (b"no head\r\n\r\n", 0, 9, 1, SessionEnd::Stopped, 0),
+    (b"no head\r\n\r\n", 0, 9, 2, SessionEnd::Bad, 1),
+    (
+        b"GET /nowhere HTTP/1.0\r\n\r\n",
+        0,
+        9,
+        9,
+        SessionEnd::Closed,
+        1,
+    ),
+    // The run stops at each call in turn: at the Settle and at the Bye too.
+    (TWO, 0, 0, 9, SessionEnd::Stopped, 0),
+    (TWO, 0, 1, 9, SessionEnd::Stopped, 1),
+    (TWO, 0, 2, 9, SessionEnd::Stopped, 2),
+    (TWO, 0, 3, 9, SessionEnd::Stopped, 3),
+    // A read fails, two writes, and a read of the end.
+    (TWO, 1, 9, 9, SessionEnd::Fault, 1),
+    (TWO, 2, 9, 9, SessionEnd::Fault, 2),
+    (TWO, 3, 9, 9, SessionEnd::Fault, 4),
+    (TWO, 4, 9, 9, SessionEnd::Fault, 4),
+    (TWO, 5, 9, 9, SessionEnd::Ended, 4),
+];
+
 #[test]
 fn ends(rt: HostRuntime) -> Result<(), Fail> {
     let alloc = rt.alloc();
-    // A stream, the call of the connection that fails, the calls behind which the run stops, and the turns; then the end,
-    // and the number of calls.
-    let table: [(&[u8], u64, usize, usize, SessionEnd, usize); 17] = [
-        (b"", 0, 9, 9, SessionEnd::Ended, 1),
-        (
-            b"PUT /api/v1/vm.boot HTTP/1.1\r\nContent-Length: 5\r\n\r\nhel",
-            0,
-            9,
-            9,
-            SessionEnd::Cut,
-            1,
-        ),
-        // The Bye has a turn of its own behind a last request, and behind bytes that are refused.
-        (LAST, 0, 9, 1, SessionEnd::Stopped, 1),
-        (LAST, 0, 9, 2, SessionEnd::Closed, 2),
-        (LAST, 0, 1, 9, SessionEnd::Stopped, 1),
-        (b"no head\r\n\r\n", 0, 9, 1, SessionEnd::Stopped, 0),
-        (b"no head\r\n\r\n", 0, 9, 2, SessionEnd::Bad, 1),
-        (
-            b"GET /nowhere HTTP/1.0\r\n\r\n",
-            0,
-            9,
-            9,
-            SessionEnd::Closed,
-            1,
-        ),
-        // The run stops at each call in turn: at the Settle and at the Bye too.
-        (TWO, 0, 0, 9, SessionEnd::Stopped, 0),
-        (TWO, 0, 1, 9, SessionEnd::Stopped, 1),
-        (TWO, 0, 2, 9, SessionEnd::Stopped, 2),
-        (TWO, 0, 3, 9, SessionEnd::Stopped, 3),
-        // A read fails, two writes, and a read of the end.
-        (TWO, 1, 9, 9, SessionEnd::Fault, 1),
-        (TWO, 2, 9, 9, SessionEnd::Fault, 2),
-        (TWO, 3, 9, 9, SessionEnd::Fault, 4),
-        (TWO, 4, 9, 9, SessionEnd::Fault, 4),
-        (TWO, 5, 9, 9, SessionEnd::Ended, 4),
-    ];
-    for (stream, fail, stops_behind, turns, end, calls) in table {
+    for (stream, fail, stops_behind, turns, end, calls) in ENDS {
         let left = play(alloc, stream, 4096, fail, stops_behind, turns)?;
         assert!(rt; left.log.end == end);
         assert_eq!(rt; left.calls, calls);
