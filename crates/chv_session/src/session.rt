@@ -138,8 +138,10 @@ impl Session {
 
         // What it comes to, by where it stood: its request, calls and reply, or its end.
         ensures outcome { IfOk result (λ next. ComesTo next
-            (moment self.old (T.answers desk.old) (T.stopped desk.old) (K.written link.old) (K.read_faults link.old) (K.write_faults link.old))
-            (moment self.new (T.answers desk.new) (T.stopped desk.new) (K.written link.new) (K.read_faults link.new) (K.write_faults link.new))) }
+            (moment self.old (T.answers desk.old) (T.stopped desk.old) (K.written link.old)
+            (K.read_faults link.old) (K.write_faults link.old))
+            (moment self.new (T.answers desk.new) (T.stopped desk.new) (K.written link.new)
+            (K.read_faults link.new) (K.write_faults link.new))) }
         ensures ready { IfOk result (λ next. IsReady next (T.answers desk.new)) }
 
         // The connection, which is closed at an end.
@@ -148,8 +150,10 @@ impl Session {
 
         // Want of memory.
         ensures lost { OnErr result (GetsLost
-            (moment self.old (T.answers desk.old) (T.stopped desk.old) (K.written link.old) (K.read_faults link.old) (K.write_faults link.old))
-            (moment self.new (T.answers desk.new) (T.stopped desk.new) (K.written link.new) (K.read_faults link.new) (K.write_faults link.new))) }
+            (moment self.old (T.answers desk.old) (T.stopped desk.old) (K.written link.old)
+            (K.read_faults link.old) (K.write_faults link.old))
+            (moment self.new (T.answers desk.new) (T.stopped desk.new) (K.written link.new)
+            (K.read_faults link.new) (K.write_faults link.new))) }
 
         // What stays; all of the connection but whether it is closed, where the session is not open; and all else where it
         // is over.

@@ -1,4 +1,4 @@
-ghost use Rattle.std.specs.Prelude.{◌≡◌, ◌<◌, true, false};
+ghost use Rattle.std.specs.Prelude.{◌≡◌, true, false};
 ghost use Rattle.chv_defs.specs.Machine.{IsSession};
 ghost use Rattle.chv_defs.specs.Desks.{can_have, is_held};
 
@@ -145,19 +145,18 @@ struct Left {
     calls: usize,
 }
 
-/// A session over a stream in pieces of `size`. The call of the connection with the number `fail` fails, and the run stops
-/// behind so many calls.
+/// A session over a stream, byte by byte or in large pieces. The call of the connection with the number `fail` fails, and
+/// the run stops behind so many calls.
 fn play(
     alloc: Global,
     stream: &[u8],
-    size: usize,
+    by_bytes: bool,
     fail: u64,
     stops_behind: usize,
     turns: usize,
-) -> Result<Left, AllocError>
-    requires { 0 < size }
-{
+) -> Result<Left, AllocError> {
     let fail = Row::new(vec![in alloc; fail]?);
+    let size = if by_bytes { 1 } else { 4096 };
     let mut link = MemLink::new(alloc, Bytes::of(alloc, stream)?, size, 4096, fail)?;
     let mut desk = TestDesk {
         alloc,
@@ -176,66 +175,69 @@ fn play(
     })
 }
 
+/// A stream, the replies to it, and whether it comes byte by byte. Each has four calls: Ping, Begin, Settle, Bye; and
+/// Info, Create, Info, Bye.
+const REPLIES: [(&[u8], &[u8], bool); 3] = [
+    (TWO, TWO_REPLIES, false),
+    (TWO, TWO_REPLIES, true),
+    (MACHINE, MACHINE_REPLIES, true),
+];
+
 #[test]
 fn replies(rt: HostRuntime) -> Result<(), Fail> {
     let alloc = rt.alloc();
-    let table: [(&[u8], &[u8], usize); 3] = [
-        (TWO, TWO_REPLIES, 4096),
-        (TWO, TWO_REPLIES, 1),
-        (MACHINE, MACHINE_REPLIES, 7),
-    ];
-    for (stream, expected, size) in table {
-        let left = play(alloc, stream, size.max(1), 0, 100, 100)?;
+    for (stream, expected, by_bytes) in REPLIES {
+        let left = play(alloc, stream, by_bytes, 0, 9, 9)?;
         assert!(rt; left.put.as_slice() == expected);
-        // Each has four calls: Ping, Begin, Settle, Bye; and Info, Create, Info, Bye.
         assert_eq!(rt; left.calls, 4);
     }
     Ok(())
 }
 
+/// A stream, the call of the connection that fails, the calls behind which the run stops, and the turns; then the end,
+/// and the number of calls.
+const ENDS: [(&[u8], u64, usize, usize, SessionEnd, usize); 17] = [
+    (b"", 0, 9, 9, SessionEnd::Ended, 1),
+    (
+        b"PUT /api/v1/vm.boot HTTP/1.1\r\nContent-Length: 5\r\n\r\nhel",
+        0,
+        9,
+        9,
+        SessionEnd::Cut,
+        1,
+    ),
+    // The Bye has a turn of its own behind a last request, and behind bytes that are refused.
+    (LAST, 0, 9, 1, SessionEnd::Stopped, 1),
+    (LAST, 0, 9, 2, SessionEnd::Closed, 2),
+    (LAST, 0, 1, 9, SessionEnd::Stopped, 1),
+    (b"no head\r\n\r\n", 0, 9, 1, SessionEnd::Stopped, 0),
+    (b"no head\r\n\r\n", 0, 9, 2, SessionEnd::Bad, 1),
+    (
+        b"GET /nowhere HTTP/1.0\r\n\r\n",
+        0,
+        9,
+        9,
+        SessionEnd::Closed,
+        1,
+    ),
+    // The run stops at each call in turn: at the Settle and at the Bye too.
+    (TWO, 0, 0, 9, SessionEnd::Stopped, 0),
+    (TWO, 0, 1, 9, SessionEnd::Stopped, 1),
+    (TWO, 0, 2, 9, SessionEnd::Stopped, 2),
+    (TWO, 0, 3, 9, SessionEnd::Stopped, 3),
+    // A read fails, two writes, and a read of the end.
+    (TWO, 1, 9, 9, SessionEnd::Fault, 1),
+    (TWO, 2, 9, 9, SessionEnd::Fault, 2),
+    (TWO, 3, 9, 9, SessionEnd::Fault, 4),
+    (TWO, 4, 9, 9, SessionEnd::Fault, 4),
+    (TWO, 5, 9, 9, SessionEnd::Ended, 4),
+];
+
 #[test]
 fn ends(rt: HostRuntime) -> Result<(), Fail> {
     let alloc = rt.alloc();
-    // A stream, the call of the connection that fails, the calls behind which the run stops, and the turns; then the end,
-    // and the number of calls.
-    let table: [(&[u8], u64, usize, usize, SessionEnd, usize); 17] = [
-        (b"", 0, 9, 9, SessionEnd::Ended, 1),
-        (
-            b"PUT /api/v1/vm.boot HTTP/1.1\r\nContent-Length: 5\r\n\r\nhel",
-            0,
-            9,
-            9,
-            SessionEnd::Cut,
-            1,
-        ),
-        // The Bye has a turn of its own behind a last request, and behind bytes that are refused.
-        (LAST, 0, 9, 1, SessionEnd::Stopped, 1),
-        (LAST, 0, 9, 2, SessionEnd::Closed, 2),
-        (LAST, 0, 1, 9, SessionEnd::Stopped, 1),
-        (b"no head\r\n\r\n", 0, 9, 1, SessionEnd::Stopped, 0),
-        (b"no head\r\n\r\n", 0, 9, 2, SessionEnd::Bad, 1),
-        (
-            b"GET /nowhere HTTP/1.0\r\n\r\n",
-            0,
-            9,
-            9,
-            SessionEnd::Closed,
-            1,
-        ),
-        // The run stops at each call in turn: at the Settle and at the Bye too.
-        (TWO, 0, 0, 9, SessionEnd::Stopped, 0),
-        (TWO, 0, 1, 9, SessionEnd::Stopped, 1),
-        (TWO, 0, 2, 9, SessionEnd::Stopped, 2),
-        (TWO, 0, 3, 9, SessionEnd::Stopped, 3),
-        // A read fails, two writes, and a read of the end.
-        (TWO, 1, 9, 9, SessionEnd::Fault, 1),
-        (TWO, 2, 9, 9, SessionEnd::Fault, 2),
-        (TWO, 3, 9, 9, SessionEnd::Fault, 4),
-        (TWO, 4, 9, 9, SessionEnd::Fault, 4),
-        (TWO, 5, 9, 9, SessionEnd::Ended, 4),
-    ];
-    for (stream, fail, stops_behind, turns, end, calls) in table {
-        let left = play(alloc, stream, 4096, fail, stops_behind, turns)?;
+    for (stream, fail, stops_behind, turns, end, calls) in ENDS {
+        let left = play(alloc, stream, false, fail, stops_behind, turns)?;
         assert!(rt; left.log.end == end);
         assert_eq!(rt; left.calls, calls);
         assert!(rt; left.put.as_slice() == left.log.replied.as_slice());
