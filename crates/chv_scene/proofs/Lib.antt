@@ -1,4 +1,5 @@
 pub mod CutLemmas
+pub mod FewLemmas
 pub mod FieldLemmas
 pub mod ReadingLemmas
 pub mod SpellingLemmas
