@@ -63,7 +63,7 @@ by_test true x y c G f g e = f refl e
 by_test false x y c G f g e = g e
 
 -- what is no fault is the other choice
-no_fault : (v : Bool) (reason : Reason) (means : Result Part Reason) (p : Part) → cond v (Err reason) means ≡ Ok p → means ≡ Ok p
+pub no_fault : (v : Bool) (reason : Reason) (means : Result Part Reason) (p : Part) → cond v (Err reason) means ≡ Ok p → means ≡ Ok p
 no_fault true reason means p e = absurd (cc)
 no_fault false reason means p e = e
 
@@ -85,7 +85,7 @@ put_spelled None p e = absurd (cc)
 put_spelled (Some fields) p e =
     ap (λ text. (codes "put" ++ 32 ∷ text) ++ codes "\n") (sym (at_space_joined fields)) ∙ put_name_spelled (at_space fields).0 (at_space fields).1 p e
 
-raw_is : (found : Option (List ℕ)) (p : Part) → raw_bytes found ≡ Ok p → (bytes : List ℕ) × (found ≡ Some bytes) × (Asks (asked.Raw bytes) ≡ p)
+pub raw_is : (found : Option (List ℕ)) (p : Part) → raw_bytes found ≡ Ok p → (bytes : List ℕ) × (found ≡ Some bytes) × (Asks (asked.Raw bytes) ≡ p)
 raw_is None p e = absurd (cc)
 raw_is (Some bytes) p e = (bytes, refl, (cc))
 
