@@ -1,4 +1,6 @@
 pub mod CutLemmas
+pub mod FewLemmas
 pub mod FieldLemmas
+pub mod GrammarLemmas
 pub mod ReadingLemmas
 pub mod SpellingLemmas

@@ -58,12 +58,12 @@ lines_of_text (b ∷ bytes) = text_byte (b == 10) b bytes (eqb-true b 10) (lines
 -- ---- a line of a section
 
 -- a choice that is c: the first where the test holds, or the second
-by_test : {R : Type 0} (v : Bool) (x y c : R) (G : Type 0) → (v ≡ true → x ≡ c → G) → (y ≡ c → G) → cond v x y ≡ c → G
+pub by_test : {R : Type 0} (v : Bool) (x y c : R) (G : Type 0) → (v ≡ true → x ≡ c → G) → (y ≡ c → G) → cond v x y ≡ c → G
 by_test true x y c G f g e = f refl e
 by_test false x y c G f g e = g e
 
 -- what is no fault is the other choice
-no_fault : (v : Bool) (reason : Reason) (means : Result Part Reason) (p : Part) → cond v (Err reason) means ≡ Ok p → means ≡ Ok p
+pub no_fault : (v : Bool) (reason : Reason) (means : Result Part Reason) (p : Part) → cond v (Err reason) means ≡ Ok p → means ≡ Ok p
 no_fault true reason means p e = absurd (cc)
 no_fault false reason means p e = e
 
@@ -85,7 +85,7 @@ put_spelled None p e = absurd (cc)
 put_spelled (Some fields) p e =
     ap (λ text. (codes "put" ++ 32 ∷ text) ++ codes "\n") (sym (at_space_joined fields)) ∙ put_name_spelled (at_space fields).0 (at_space fields).1 p e
 
-raw_is : (found : Option (List ℕ)) (p : Part) → raw_bytes found ≡ Ok p → (bytes : List ℕ) × (found ≡ Some bytes) × (Asks (asked.Raw bytes) ≡ p)
+pub raw_is : (found : Option (List ℕ)) (p : Part) → raw_bytes found ≡ Ok p → (bytes : List ℕ) × (found ≡ Some bytes) × (Asks (asked.Raw bytes) ≡ p)
 raw_is None p e = absurd (cc)
 raw_is (Some bytes) p e = (bytes, refl, (cc))
 
@@ -121,7 +121,7 @@ session_spelled : (sessions : ℕ) (fields : Option (List ℕ)) → session_faul
 session_spelled sessions None e = refl
 session_spelled sessions (Some fields) e = absurd (cc)
 
-some_fault : (v : Bool) (x y : Reason) (G : Type 0) → cond v (Some x) (Some y) ≡ None → G
+pub some_fault : (v : Bool) (x y : Reason) (G : Type 0) → cond v (Some x) (Some y) ≡ None → G
 some_fault true x y G e = absurd (cc)
 some_fault false x y G e = absurd (cc)
 
@@ -145,7 +145,7 @@ Spells true lines [] = ⊥
 Spells true lines (requests ∷ sessions) = lines_text lines ≡ (flat_map request_line requests ++ codes "end\n") ++ flat_map session_section sessions
 
 -- what was changed was read
-unchanged : (f : Sessions → Sessions) (read : Result Sessions Fault) (sessions : Sessions) → of_sessions f read ≡ Ok sessions → (s : Sessions) × (read ≡ Ok s) × (f s ≡ sessions)
+pub unchanged : (f : Sessions → Sessions) (read : Result Sessions Fault) (sessions : Sessions) → of_sessions f read ≡ Ok sessions → (s : Sessions) × (read ≡ Ok s) × (f s ≡ sessions)
 unchanged f (Ok s) sessions e = (s, refl, (cc))
 unchanged f (Err fault) sessions e = absurd (cc)
 

@@ -1,5 +1,5 @@
 // Scenarios, read from their text.
-ghost use Rattle.std.specs.Prelude.{◌≡◌, ◌+◌, ◌^◌, ◌<◌, [], length, IfOk};
+ghost use Rattle.std.specs.Prelude.{◌≡◌, ◌+◌, ◌^◌, ◌<◌, ◌≤◌, [], length, IfOk};
 ghost use Rattle.chv_defs.specs.ScenarioText.{read_scenario};
 ghost use Rattle.chv_scene.specs.Answer.{answer_of};
 ghost use Rattle.chv_scene.specs.Reading.{resumed};
@@ -18,10 +18,12 @@ pub struct SceneFault {
 }
 
 /// Reads a scenario, or says which of its lines is the first that fails, and why. Each byte is looked at a bounded number
-/// of times, and a body is copied once. So far a scenario has sessions alone; the scene has no disk, no vCPU and no order.
+/// of times, and a body is copied once. So far a scenario has sessions alone, at most 16 of them; the scene has no disk, no
+/// vCPU and no order.
 pub fn read(alloc: Global, text: &[u8]) -> Result<Result<Scene, SceneFault>, AllocError>
     requires { length text.now + 1 < 2 ^ 32 }
-    ensures { IfOk result (λ answer. answer ≡ answer_of (read_scenario text.now)) }
+    ensures answer { IfOk result (λ answer. answer ≡ answer_of (read_scenario text.now)) }
+    ensures few { IfOk result (λ answer. IfOk answer (λ scene. length scene.sessions ≤ 16)) }
 {
     let mut reading = Reading::new(alloc);
     let mut line: u32 = 1;

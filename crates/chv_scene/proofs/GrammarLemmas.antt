@@ -1,0 +1,195 @@
+-- What is read is a scenario: each of its requests can stand there.
+use Rattle.std.proofs.Common.{◌≡◌, ℕ, ◌+◌, ◌*◌, ◌<◌, ◌==◌, ◌&&◌, not, nat_lt, Bool, true, false, cond, List, [], ◌∷◌, length, codes, Option, None, Some, option_map, Result, Ok, Err, refl, sym, ◌∙◌, ap, subst, arith}
+use Rattle.std.specs.Char.{digit_value}
+use Rattle.std.specs.List.{list_all}
+use Rattle.std.specs.Str.{bytes_eq}
+use Rattle.std.proofs.lemmas.Bool.{and_parts, and_from, lt-ltb, cond-false, ne_eqb}
+use Rattle.chv_defs.specs.Numbers.{is_hex_digit, bytes_in, bytes_of}
+use Rattle.chv_defs.specs.ScenarioText.{Line, lines_of, onto_line, at_space, has_space, is_route_name, Part, Asks, Ends, get_line, put_name, put_line, raw_bytes, raw_line, end_line, section_word, section_line, top_line, Fault, Sessions, with_request, with_session, section_part, top_part, read_lines, read_scenario, is_request, IsScenario}
+use Rattle.chv_defs.specs.declared.scene.Asked.{Asked}
+use Rattle.chv_defs.specs.declared.scene.Asked.TheVariants as asked
+use Rattle.chv_defs.specs.declared.rule.Reason.{Reason}
+use Rattle.chv_defs.specs.declared.rule.Reason.TheVariants.{UnknownWord, FieldCount, BadName}
+use Rattle.chv_num.proofs.Bases.{hex_base}
+use Rattle.chv_num.proofs.HexSpelling.{chosen}
+use Rattle.chv_scene.proofs.SpellingLemmas.{by_test, no_fault, unchanged, raw_is, scenario_spelled}
+use Rattle.chv_scene.proofs.FewLemmas.{scenario_few}
+
+-- ---- texts without a line feed
+
+-- whether no line feed stands in it
+abbrev pub no_feed : List ℕ → Bool
+no_feed text = list_all (λ b. not (b == 10)) text
+
+-- whether none stands in any of the lines
+abbrev feedless : List Line → Bool
+feedless lines = list_all (λ (line : Line). no_feed line.text) lines
+
+onto_feedless : (b : ℕ) (lines : List Line) → not (b == 10) ≡ true → feedless lines ≡ true → feedless (onto_line b lines) ≡ true
+onto_feedless b [] is h = and_from _ _ (and_from _ _ is refl) refl
+onto_feedless b (line ∷ lines) is h =
+    let parts = and_parts (no_feed line.text) (feedless lines) h in
+    and_from _ _ (and_from _ _ is parts.0) parts.1
+
+byte_feedless : (v : Bool) (b : ℕ) (lines more : List Line) → (v ≡ false → not (b == 10) ≡ true) → feedless lines ≡ true → feedless more ≡ true → feedless (cond v (record { text = []; is_ended = true } ∷ lines) (onto_line b more)) ≡ true
+byte_feedless true b lines more is h g = h
+byte_feedless false b lines more is h g = onto_feedless b more (is refl) g
+
+lines_feedless : (text : List ℕ) → feedless (lines_of text) ≡ true
+lines_feedless [] = refl
+lines_feedless (b ∷ bytes) = byte_feedless (b == 10) b (lines_of bytes) (lines_of bytes) (λ e. ap not e) (lines_feedless bytes) (lines_feedless bytes)
+
+-- where there is a text, no line feed stands in it
+abbrev no_feed_there : Option (List ℕ) → Bool
+no_feed_there None = true
+no_feed_there (Some text) = no_feed text
+
+byte_behind : (v : Bool) (b : ℕ) (bytes : List ℕ) (parts : List ℕ × Option (List ℕ)) → no_feed bytes ≡ true → no_feed_there parts.1 ≡ true → let more : List ℕ × Option (List ℕ) = cond v ([], Some bytes) (b ∷ parts.0, parts.1) in no_feed_there more.1 ≡ true
+byte_behind true b bytes parts h g = h
+byte_behind false b bytes parts h g = g
+
+behind_feedless : (text : List ℕ) → no_feed text ≡ true → no_feed_there (at_space text).1 ≡ true
+behind_feedless [] h = refl
+behind_feedless (b ∷ bytes) h =
+    let parts = and_parts (not (b == 10)) (no_feed bytes) h in
+    byte_behind (b == 32) b bytes (at_space bytes) parts.1 (behind_feedless bytes parts.1)
+
+-- ---- bytes in pairs
+
+-- whether each of them is a byte
+abbrev are_bytes : List ℕ → Bool
+are_bytes bytes = list_all (λ b. nat_lt b 256) bytes
+
+pair_is_byte : (high low : ℕ) → is_hex_digit high ≡ true → is_hex_digit low ≡ true → nat_lt (digit_value high * 16 + digit_value low) 256 ≡ true
+pair_is_byte high low h l =
+    let first = hex_base.value high h in
+    let second = hex_base.value low l in
+    lt-ltb _ 256 (omega (arith, first, second))
+
+one_more : (byte : ℕ) (found : Option (List ℕ)) (bytes : List ℕ) → nat_lt byte 256 ≡ true → option_map (λ bs. byte ∷ bs) found ≡ Some bytes → ((rest : List ℕ) → found ≡ Some rest → are_bytes rest ≡ true) → are_bytes bytes ≡ true
+one_more byte None bytes is e h = absurd (cc)
+one_more byte (Some rest) bytes is e h = let all : byte ∷ rest ≡ bytes = cc in subst (λ bs. are_bytes bs ≡ true) all (and_from _ _ is (h rest refl))
+
+pairs_are_bytes : (text bytes : List ℕ) → bytes_in text ≡ Some bytes → are_bytes bytes ≡ true
+pairs_are_bytes [] bytes e = let none : [] ≡ bytes = cc in subst (λ bs. are_bytes bs ≡ true) none refl
+pairs_are_bytes (high ∷ []) bytes e = absurd (cc)
+pairs_are_bytes (high ∷ low ∷ text) bytes e =
+    let found = chosen (is_hex_digit high && is_hex_digit low) _ bytes e in
+    let tests = and_parts (is_hex_digit high) (is_hex_digit low) found.0 in
+    one_more (digit_value high * 16 + digit_value low) (bytes_in text) bytes (pair_is_byte high low tests.0 tests.1) found.1 (pairs_are_bytes text)
+
+-- a text that is not empty
+of_some : (b : ℕ) (text : List ℕ) → bytes_of (b ∷ text) ≡ bytes_in (b ∷ text)
+of_some b text = let more : length (b ∷ text) ≡ 0 → ⊥ = λ e. omega arith in cond-false (length (b ∷ text) == 0) None (bytes_in (b ∷ text)) (ne_eqb (length (b ∷ text)) 0 more)
+
+mapped_some : (byte : ℕ) (found : Option (List ℕ)) (bytes : List ℕ) → option_map (λ bs. byte ∷ bs) found ≡ Some bytes → nat_lt 0 (length bytes) ≡ true
+mapped_some byte None bytes e = absurd (cc)
+mapped_some byte (Some rest) bytes e = let all : byte ∷ rest ≡ bytes = cc in subst (λ bs. nat_lt 0 (length bs) ≡ true) all (lt-ltb 0 _ (omega arith))
+
+pairs_are_some : (text bytes : List ℕ) → bytes_of text ≡ Some bytes → nat_lt 0 (length bytes) ≡ true
+pairs_are_some [] bytes e = absurd (cc)
+pairs_are_some (high ∷ []) bytes e = absurd (cc)
+pairs_are_some (high ∷ low ∷ text) bytes e =
+    let found = chosen (is_hex_digit high && is_hex_digit low) _ bytes (sym (of_some high (low ∷ text)) ∙ e) in
+    mapped_some (digit_value high * 16 + digit_value low) (bytes_in text) bytes found.1
+
+in_some : (text bytes : List ℕ) → bytes_of text ≡ Some bytes → bytes_in text ≡ Some bytes
+in_some [] bytes e = absurd (cc)
+in_some (b ∷ text) bytes e = sym (of_some b text) ∙ e
+
+-- ---- a line of a section
+
+-- whether a request that a line means can stand in a scenario
+abbrev is_good : Part → Bool
+is_good (Asks request) = is_request request
+is_good Ends = true
+
+named_good : (v : Bool) (request : Asked) (p : Part) → (v ≡ true → is_request request ≡ true) → cond v (Ok (Asks request)) (Err BadName) ≡ Ok p → is_good p ≡ true
+named_good true request p h e = let is : Asks request ≡ p = cc in subst (λ q. is_good q ≡ true) is (h refl)
+named_good false request p h e = absurd (cc)
+
+get_good : (fields : Option (List ℕ)) (p : Part) → get_line fields ≡ Ok p → is_good p ≡ true
+get_good None p e = absurd (cc)
+get_good (Some name) p e = named_good (is_route_name name) (asked.Get name) p (λ is. is) (no_fault (has_space name) FieldCount _ p e)
+
+put_name_good : (name : List ℕ) (body : Option (List ℕ)) (p : Part) → no_feed_there body ≡ true → put_name name body ≡ Ok p → is_good p ≡ true
+put_name_good name None p h e = named_good (is_route_name name) (asked.Put name None) p (λ is. is) e
+put_name_good name (Some []) p h e = absurd (cc)
+put_name_good name (Some (b ∷ body)) p h e =
+    named_good (is_route_name name) (asked.Put name (Some (b ∷ body))) p
+    (λ is. and_from _ _ (and_from _ _ is (lt-ltb 0 _ (omega arith))) h) e
+
+put_good : (fields : Option (List ℕ)) (p : Part) → no_feed_there fields ≡ true → put_line fields ≡ Ok p → is_good p ≡ true
+put_good None p h e = absurd (cc)
+put_good (Some fields) p h e = put_name_good (at_space fields).0 (at_space fields).1 p (behind_feedless fields h) e
+
+raw_good : (fields : Option (List ℕ)) (p : Part) → raw_line fields ≡ Ok p → is_good p ≡ true
+raw_good None p e = absurd (cc)
+raw_good (Some digits) p e =
+    let found = raw_is (bytes_of digits) p (no_fault (has_space digits) FieldCount _ p e) in
+    subst (λ q. is_good q ≡ true) found.2
+    (and_from _ _ (pairs_are_some digits found.0 found.1) (pairs_are_bytes digits found.0 (in_some digits found.0 found.1)))
+
+end_good : (fields : Option (List ℕ)) (p : Part) → end_line fields ≡ Ok p → is_good p ≡ true
+end_good None p e = let is : Ends ≡ p = cc in subst (λ q. is_good q ≡ true) is refl
+end_good (Some fields) p e = absurd (cc)
+
+word_good : (word : List ℕ) (fields : Option (List ℕ)) (p : Part) → no_feed_there fields ≡ true → section_word word fields ≡ Ok p → is_good p ≡ true
+word_good word fields p h =
+    by_test (bytes_eq word (codes "get")) (get_line fields) _ (Ok p) _ (λ test e. get_good fields p e) (
+    by_test (bytes_eq word (codes "put")) (put_line fields) _ (Ok p) _ (λ test e. put_good fields p h e) (
+    by_test (bytes_eq word (codes "raw")) (raw_line fields) _ (Ok p) _ (λ test e. raw_good fields p e) (
+    by_test (bytes_eq word (codes "end")) (end_line fields) (Err UnknownWord) (Ok p) _ (λ test e. end_good fields p e) (
+    λ e. absurd (cc)))))
+
+line_good : (text : List ℕ) (v : Bool) (p : Part) → no_feed text ≡ true → section_line (record { text = text; is_ended = v }) ≡ Ok p → is_good p ≡ true
+line_good text true p h e = word_good (at_space text).0 (at_space text).1 p (behind_feedless text h) e
+line_good text false p h e = absurd (cc)
+
+-- ---- the whole
+
+-- whether each request can stand in a scenario
+abbrev pub are_requests : List Asked → Bool
+are_requests requests = list_all is_request requests
+
+abbrev pub all_requests : Sessions → Bool
+all_requests sessions = list_all (λ (requests : List Asked). list_all is_request requests) sessions
+
+request_good : (request : Asked) (sessions : Sessions) → is_request request ≡ true → all_requests sessions ≡ true → all_requests (with_request request sessions) ≡ true
+request_good request [] is h = and_from _ _ (and_from _ _ is refl) refl
+request_good request (requests ∷ sessions) is h =
+    let parts = and_parts (are_requests requests) (all_requests sessions) h in
+    and_from _ _ (and_from _ _ is parts.0) parts.1
+
+inside_good : (n : ℕ) (sessions : Sessions) (inside outside : Result Sessions Fault) (means : Result Part Reason) → ((p : Part) → means ≡ Ok p → is_good p ≡ true) → section_part n means inside outside ≡ Ok sessions → ((s : Sessions) → inside ≡ Ok s → all_requests s ≡ true) → ((s : Sessions) → outside ≡ Ok s → all_requests s ≡ true) → all_requests sessions ≡ true
+inside_good n sessions inside outside (Err reason) good e more after = absurd (cc)
+inside_good n sessions inside outside (Ok Ends) good e more after =
+    let found = unchanged with_session outside sessions e in
+    subst (λ s. all_requests s ≡ true) found.2 (after found.0 found.1)
+inside_good n sessions inside outside (Ok (Asks request)) good e more after =
+    let found = unchanged (with_request request) inside sessions e in
+    subst (λ s. all_requests s ≡ true) found.2 (request_good request found.0 (good (Asks request) refl) (more found.0 found.1))
+
+outside_good : (n : ℕ) (sessions : Sessions) (inside : Result Sessions Fault) (fault : Option Reason) → top_part n fault inside ≡ Ok sessions → ((s : Sessions) → inside ≡ Ok s → all_requests s ≡ true) → all_requests sessions ≡ true
+outside_good n sessions inside None e more = more sessions e
+outside_good n sessions inside (Some reason) e more = absurd (cc)
+
+read_good : (v : Bool) (opened n : ℕ) (lines : List Line) (sessions : Sessions) → feedless lines ≡ true → read_lines v opened n lines ≡ Ok sessions → all_requests sessions ≡ true
+read_good true opened n [] sessions h e = absurd (cc)
+read_good false opened n [] sessions h e = let none : [] ≡ sessions = cc in subst (λ s. all_requests s ≡ true) none refl
+read_good true opened n (line ∷ lines) sessions h e =
+    let parts = and_parts (no_feed line.text) (feedless lines) h in
+    inside_good n sessions (read_lines true opened (n + 1) lines) (read_lines false opened (n + 1) lines) (section_line line) (λ p. line_good line.text line.is_ended p parts.0) e
+    (λ s. read_good true opened (n + 1) lines s parts.1) (λ s. read_good false opened (n + 1) lines s parts.1)
+read_good false opened n (line ∷ lines) sessions h e =
+    let parts = and_parts (no_feed line.text) (feedless lines) h in
+    outside_good n sessions (read_lines true (opened + 1) (n + 1) lines) (top_line opened line) e
+    (λ s. read_good true (opened + 1) (n + 1) lines s parts.1)
+
+-- what is read is a scenario
+pub read_is_scenario : (text : List ℕ) (sessions : Sessions) → read_scenario text ≡ Ok sessions → IsScenario text sessions
+read_is_scenario text sessions e = record {
+  spelled = scenario_spelled text sessions e;
+  few = scenario_few text sessions e;
+  requests = read_good false 0 1 (lines_of text) sessions (lines_feedless text) e;
+}

@@ -1,0 +1,144 @@
+-- The text of a scenario is read as its sessions.
+use Rattle.std.proofs.Common.{◌≡◌, ℕ, ◌+◌, ◌/◌, ◌%◌, ◌<◌, ◌≤◌, ◌==◌, ◌&&◌, not, nat_lt, nat_le, Bool, true, false, cond, suc, List, [], ◌∷◌, ◌++◌, length, flat_map, get_or, codes, Option, None, Some, Result, Ok, Err, refl, sym, ◌∙◌, ap, ap₂, append_assoc, arith}
+use Rattle.std.specs.Fmt.{digit_glyph}
+use Rattle.std.specs.List.{list_all, list_any}
+use Rattle.std.proofs.lemmas.Bool.{agree_below_at, and_parts, and_from, or_from, cond-true, cond-false, ltb-true, lt-ltb}
+use Rattle.chv_defs.specs.Numbers.{is_hex_digit, pair, pairs, bytes_of}
+use Rattle.chv_defs.specs.ScenarioText.{Line, lines_of, onto_line, at_space, has_space, is_route_byte, is_route_name, Part, Asks, Ends, named, raw_bytes, section_line, top_line, Fault, Sessions, with_request, with_session, of_sessions, section_part, top_part, read_lines, read_scenario, is_request, IsScenario}
+use Rattle.chv_defs.specs.SceneText.{request_line, session_section}
+use Rattle.chv_defs.specs.declared.scene.Asked.{Asked}
+use Rattle.chv_defs.specs.declared.scene.Asked.TheVariants as asked
+use Rattle.chv_defs.specs.declared.rule.Reason.{Reason}
+use Rattle.chv_defs.specs.declared.rule.Reason.TheVariants.{BadName, FieldCount, TooMany}
+use Rattle.chv_num.proofs.PairSpelling.{pairs_read_back}
+use Rattle.chv_scene.proofs.GrammarLemmas.{no_feed, are_requests, all_requests}
+
+-- ---- the first line and the first field of a text
+
+byte_line : (v : Bool) (b : ℕ) (bytes : List ℕ) (rest lines : List Line) → not v ≡ true → lines ≡ record { text = bytes; is_ended = true } ∷ rest → cond v (record { text = []; is_ended = true } ∷ lines) (onto_line b lines) ≡ record { text = b ∷ bytes; is_ended = true } ∷ rest
+byte_line true b bytes rest lines is h = absurd (cc)
+byte_line false b bytes rest lines is h = ap (onto_line b) h
+
+-- a text up to its first line feed is its first line
+first_line : (text rest : List ℕ) → no_feed text ≡ true → lines_of (text ++ 10 ∷ rest) ≡ record { text = text; is_ended = true } ∷ lines_of rest
+first_line [] rest h = refl
+first_line (b ∷ bytes) rest h =
+    let parts = and_parts (not (b == 10)) (no_feed bytes) h in
+    byte_line (b == 10) b bytes (lines_of rest) (lines_of (bytes ++ 10 ∷ rest)) parts.0 (first_line bytes rest parts.1)
+
+-- whether no space stands in a text
+abbrev no_space : List ℕ → Bool
+no_space text = list_all (λ b. not (b == 32)) text
+
+byte_field : (v : Bool) (b : ℕ) (bytes text : List ℕ) (parts : List ℕ × Option (List ℕ)) (behind : Option (List ℕ)) → not v ≡ true → parts ≡ (bytes, behind) → cond v ([], Some text) (b ∷ parts.0, parts.1) ≡ (b ∷ bytes, behind)
+byte_field true b bytes text parts behind is h = absurd (cc)
+byte_field false b bytes text parts behind is h = ap (λ (p : List ℕ × Option (List ℕ)). (b ∷ p.0, p.1)) h
+
+only_field : (text : List ℕ) → no_space text ≡ true → at_space text ≡ (text, None)
+only_field [] h = refl
+only_field (b ∷ bytes) h =
+    let parts = and_parts (not (b == 32)) (no_space bytes) h in
+    byte_field (b == 32) b bytes bytes (at_space bytes) None parts.0 (only_field bytes parts.1)
+
+first_field : (text rest : List ℕ) → no_space text ≡ true → at_space (text ++ 32 ∷ rest) ≡ (text, Some rest)
+first_field [] rest h = refl
+first_field (b ∷ bytes) rest h =
+    let parts = and_parts (not (b == 32)) (no_space bytes) h in
+    byte_field (b == 32) b bytes (bytes ++ 32 ∷ rest) (at_space (bytes ++ 32 ∷ rest)) (Some rest) parts.0 (first_field bytes rest parts.1)
+
+not_is : (v : Bool) → not v ≡ true → v ≡ false
+not_is true h = absurd (cc)
+not_is false h = refl
+
+one_field : (text : List ℕ) → no_space text ≡ true → has_space text ≡ false
+one_field [] h = refl
+one_field (b ∷ bytes) h =
+    let parts = and_parts (not (b == 32)) (no_space bytes) h in
+    or_from _ _ (not_is (b == 32) parts.0) (one_field bytes parts.1)
+
+-- ---- names and pairs
+
+-- what holds of each byte of a kind holds of each byte of a text of that kind
+all_so : (p q : ℕ → Bool) → ((b : ℕ) → p b ≡ true → q b ≡ true) → (text : List ℕ) → list_all p text ≡ true → list_all q text ≡ true
+all_so p q h [] e = refl
+all_so p q h (b ∷ bytes) e =
+    let parts = and_parts (p b) (list_all p bytes) e in
+    and_from _ _ (h b parts.0) (all_so p q h bytes parts.1)
+
+-- a byte that is not of a kind is no byte of that kind
+other_byte : (p : ℕ → Bool) (at b : ℕ) → p at ≡ false → p b ≡ true → not (b == at) ≡ true
+other_byte p at b no yes = ?
+
+name_parts : (name : List ℕ) → is_route_name name ≡ true → list_all is_route_byte name ≡ true
+name_parts name h = (and_parts (nat_le 1 (length name) && nat_le (length name) 32) (list_all is_route_byte name) h).1
+
+name_no_feed : (name : List ℕ) → is_route_name name ≡ true → no_feed name ≡ true
+name_no_feed name h = all_so is_route_byte (λ b. not (b == 10)) (λ b is. other_byte is_route_byte 10 b refl is) name (name_parts name h)
+
+name_no_space : (name : List ℕ) → is_route_name name ≡ true → no_space name ≡ true
+name_no_space name h = all_so is_route_byte (λ b. not (b == 32)) (λ b is. other_byte is_route_byte 32 b refl is) name (name_parts name h)
+
+glyph_digit : (d : ℕ) → d < 16 → is_hex_digit (digit_glyph false d) ≡ true
+glyph_digit d h = agree_below_at (λ d. is_hex_digit (digit_glyph false d)) (λ _. true) 16 d refl h
+
+pairs_digits : (bytes : List ℕ) → list_all (λ b. nat_lt b 256) bytes ≡ true → list_all is_hex_digit (pairs bytes) ≡ true
+pairs_digits [] h = refl
+pairs_digits (b ∷ bytes) h =
+    let parts = and_parts (nat_lt b 256) (list_all (λ b. nat_lt b 256) bytes) h in
+    let byte = ltb-true b 256 parts.0 in
+    let high : b / 16 < 16 = omega (arith, byte) in
+    let low : b % 16 < 16 = omega arith in
+    and_from _ _ (glyph_digit (b / 16) high) (and_from _ _ (glyph_digit (b % 16) low) (pairs_digits bytes parts.1))
+
+byte_at : (bytes : List ℕ) → list_all (λ b. nat_lt b 256) bytes ≡ true → (i : ℕ) → get_or bytes i 0 < 256
+byte_at [] h i = omega arith
+byte_at (b ∷ bytes) h 0 = ltb-true b 256 (and_parts (nat_lt b 256) (list_all (λ b. nat_lt b 256) bytes) h).0
+byte_at (b ∷ bytes) h (suc i) = byte_at bytes (and_parts (nat_lt b 256) (list_all (λ b. nat_lt b 256) bytes) h).1 i
+
+-- ---- the line of a request
+
+-- such a line without its line feed
+abbrev front : Asked → List ℕ
+front (asked.Get name) = codes "get" ++ 32 ∷ name
+front (asked.Put name None) = codes "put" ++ 32 ∷ name
+front (asked.Put name (Some body)) = codes "put" ++ 32 ∷ (name ++ 32 ∷ body)
+front (asked.Raw bytes) = codes "raw" ++ 32 ∷ pairs bytes
+
+front_line : (request : Asked) (rest : List ℕ) → request_line request ++ rest ≡ front request ++ 10 ∷ rest
+front_line (asked.Get name) rest = simp append_assoc
+front_line (asked.Put name None) rest = simp append_assoc
+front_line (asked.Put name (Some body)) rest = simp append_assoc
+front_line (asked.Raw bytes) rest = simp append_assoc
+
+-- two texts without a line feed and a space between them
+joined_no_feed : (text rest : List ℕ) → no_feed text ≡ true → no_feed rest ≡ true → no_feed (text ++ 32 ∷ rest) ≡ true
+joined_no_feed [] rest h g = g
+joined_no_feed (b ∷ bytes) rest h g =
+    let parts = and_parts (not (b == 10)) (no_feed bytes) h in
+    and_from _ _ parts.0 (joined_no_feed bytes rest parts.1 g)
+
+-- the parts of a request that can stand in a scenario
+body_parts : (name body : List ℕ) → is_request (asked.Put name (Some body)) ≡ true → (is_route_name name ≡ true) × (0 < length body) × (no_feed body ≡ true)
+body_parts name body h =
+    let parts = and_parts (is_route_name name && nat_lt 0 (length body)) (no_feed body) h in
+    let more = and_parts (is_route_name name) (nat_lt 0 (length body)) parts.0 in
+    (more.0, ltb-true 0 (length body) more.1, parts.1)
+
+raw_parts : (bytes : List ℕ) → is_request (asked.Raw bytes) ≡ true → (0 < length bytes) × (list_all (λ b. nat_lt b 256) bytes ≡ true)
+raw_parts bytes h =
+    let parts = and_parts (nat_lt 0 (length bytes)) (list_all (λ b. nat_lt b 256) bytes) h in
+    (ltb-true 0 (length bytes) parts.0, parts.1)
+
+front_no_feed : (request : Asked) → is_request request ≡ true → no_feed (front request) ≡ true
+front_no_feed (asked.Get name) h = name_no_feed name h
+front_no_feed (asked.Put name None) h = name_no_feed name h
+front_no_feed (asked.Put name (Some body)) h =
+    let parts = body_parts name body h in
+    joined_no_feed name body (name_no_feed name parts.0) parts.1.1
+front_no_feed (asked.Raw bytes) h =
+    all_so is_hex_digit (λ b. not (b == 10)) (λ b is. other_byte is_hex_digit 10 b refl is) (pairs bytes) (pairs_digits bytes (raw_parts bytes h).1)
+
+get_read : (name : List ℕ) → is_route_name name ≡ true → section_line (record { text = front (asked.Get name); is_ended = true }) ≡ Ok (Asks (asked.Get name))
+get_read name h =
+    cond-false (has_space name) (Err FieldCount) (named name (asked.Get name)) (one_field name (name_no_space name h))
+    ∙ cond-true (is_route_name name) (Ok (Asks (asked.Get name))) (Err BadName) h
