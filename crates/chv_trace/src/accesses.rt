@@ -16,8 +16,14 @@ pub(crate) fn access_text(
 {
     match access {
         RegAccess::In { width, port } => format!(in alloc; "in {context} {width} 0x{port:x}"),
-        RegAccess::Out { width, port, value } => format!(in alloc; "out {context} {width} 0x{port:x} 0x{value:x}"),
-        RegAccess::MmioRead { width, addr } => format!(in alloc; "mmr {context} {width} 0x{addr:x}"),
-        RegAccess::MmioWrite { width, addr, value } => format!(in alloc; "mmw {context} {width} 0x{addr:x} 0x{value:x}"),
+        RegAccess::Out { width, port, value } => format!(in alloc;
+            "out {context} {width} 0x{port:x} 0x{value:x}"
+        ),
+        RegAccess::MmioRead { width, addr } => format!(in alloc;
+            "mmr {context} {width} 0x{addr:x}"
+        ),
+        RegAccess::MmioWrite { width, addr, value } => format!(in alloc;
+            "mmw {context} {width} 0x{addr:x} 0x{value:x}"
+        ),
     }
 }

@@ -5,7 +5,9 @@ ghost use Rattle.chv_defs.specs.ScriptText.{field};
 ghost use Rattle.chv_defs.specs.TraceText as text;
 
 use crate::fields::{book_fields, book_text, flag, hex_fields};
-use chv_defs::{BookId, ContextNote, ControlCall, CpuNote, DiskCount, HandNote, QueueFault, QueueNote, SliceEnd};
+use chv_defs::{
+    BookId, ContextNote, ControlCall, CpuNote, DiskCount, HandNote, QueueFault, QueueNote, SliceEnd,
+};
 use std::alloc::{AllocError, Global};
 
 /// A context: a vCPU's or a queue's.

@@ -15,11 +15,7 @@ use std::alloc::AllocError;
 pub(crate) const PIECE: usize = 65_536;
 
 /// Adds a text, and puts what is held where it is a piece.
-pub(crate) fn push<K: Sink>(
-    out: &mut K,
-    buffer: &mut String,
-    text: &str,
-) -> Result<(), PrintError>
+pub(crate) fn push<K: Sink>(out: &mut K, buffer: &mut String, text: &str) -> Result<(), PrintError>
     ensures ok { OnOk result (Adds (K.written out.old) (string_bytes buffer.old) (K.written out.new) (string_bytes buffer.new) text.now) }
     ensures small { OnOk result (string_len buffer.new < PIECE) }
     ensures part { OnErr result (BreaksOff (K.written out.old) (string_bytes buffer.old) (K.written out.new) text.now) }
@@ -76,11 +72,7 @@ pub(crate) fn push_pairs<K: Sink>(
     }
 }
 
-fn push_each_pair<K: Sink>(
-    out: &mut K,
-    buffer: &mut String,
-    bytes: &[u8],
-) -> Result<(), PrintError>
+fn push_each_pair<K: Sink>(out: &mut K, buffer: &mut String, bytes: &[u8]) -> Result<(), PrintError>
     ensures ok { OnOk result (Adds (K.written out.old) (string_bytes buffer.old) (K.written out.new) (string_bytes buffer.new) (pairs bytes.now)) }
     ensures part { OnErr result (BreaksOff (K.written out.old) (string_bytes buffer.old) (K.written out.new) (pairs bytes.now)) }
     ensures cause { result ≡ Err PrintError.Failed → Rose (K.write_faults out.old) (K.write_faults out.new) }

@@ -134,8 +134,20 @@ fn calls_have_their_lines(rt: HostRuntime) -> Result<(), Fail> {
         ram: Some(1_048_576),
     };
     assert!(rt; is_call(alloc, resize, "resize - 1048576")?);
-    assert!(rt; is_call(alloc, ControlCall::ResizeZone { zone, ram: 0 }, "zone \"a\\\"b\" 0")?);
-    assert!(rt; is_call(alloc, ControlCall::Remove(Text::of(alloc, "d0")?), "remove \"d0\"")?);
+    assert!(rt;
+        is_call(
+            alloc,
+            ControlCall::ResizeZone { zone, ram: 0 },
+            "zone \"a\\\"b\" 0"
+        )?
+    );
+    assert!(rt;
+        is_call(
+            alloc,
+            ControlCall::Remove(Text::of(alloc, "d0")?),
+            "remove \"d0\""
+        )?
+    );
     assert!(rt; is_call(alloc, ControlCall::Snapshot(name), "snapshot s.1")?);
     Ok(())
 }
@@ -208,7 +220,10 @@ fn replies_have_their_lines(rt: HostRuntime) -> Result<(), Fail> {
         }),
     };
     let cases = [
-        (ControlReply::Ruled(Rule::BadImage(216)), "rule BadImage 216"),
+        (
+            ControlReply::Ruled(Rule::BadImage(216)),
+            "rule BadImage 216",
+        ),
         (
             ControlReply::Added { id, slot: 2 },
             "added {\"bdf\":\"0000:00:02.0\",\"id\":\"d1\"}",
