@@ -89,7 +89,7 @@ with-insert (x ∷ rows) pin none = by (nat_lt x.caller pin.caller) none (with-i
 
     by : (b : Bool) → is_row_of (x ∷ rows) (cond b (1 + prefix_len (λ (row : CallerPins). nat_lt row.caller pin.caller) rows) 0) pin.caller ≡ false →
         (is_row_of rows (prefix_len (λ (row : CallerPins). nat_lt row.caller pin.caller) rows) pin.caller ≡ false →
-          insert rows (prefix_len (λ (row : CallerPins). nat_lt row.caller pin.caller) rows) (record { caller = pin.caller; pins = pin ∷ [] }) ≡ with_pin rows pin) →
+        insert rows (prefix_len (λ (row : CallerPins). nat_lt row.caller pin.caller) rows) (record { caller = pin.caller; pins = pin ∷ [] }) ≡ with_pin rows pin) →
         insert (x ∷ rows) (cond b (1 + prefix_len (λ (row : CallerPins). nat_lt row.caller pin.caller) rows) 0) (record { caller = pin.caller; pins = pin ∷ [] })
         ≡ cond b (x ∷ with_pin rows pin) (cond (x.caller == pin.caller) (record { caller = x.caller; pins = x.pins ++ pin ∷ [] } ∷ rows) (record { caller = pin.caller; pins = pin ∷ [] } ∷ x ∷ rows))
     by true g f =
@@ -299,9 +299,9 @@ holds-without rows pins caller number h = record {
   ascend = rows-without 0 rows caller number h.ascend;
   of_each = λ c. pins_by-without rows caller number c ∙ each c (c == caller) refl;
   counted =
-    (let mine : length (pins_by rows caller) ≡ length (filter (λ (pin : PinOut). caller == pin.caller) pins) = ap length (h.of_each caller) in
-    let left : length (filter (is_other caller number) (pins_by rows caller)) ≡ length (filter (is_other caller number) (filter (λ (pin : PinOut). caller == pin.caller) pins)) = ap (λ (ps : List PinOut). length (filter (is_other caller number) ps)) (h.of_each caller) in
-    omega (arith, total-without rows caller number, few caller number pins, mine, left, h.counted));
+      (let mine : length (pins_by rows caller) ≡ length (filter (λ (pin : PinOut). caller == pin.caller) pins) = ap length (h.of_each caller) in
+      let left : length (filter (is_other caller number) (pins_by rows caller)) ≡ length (filter (is_other caller number) (filter (λ (pin : PinOut). caller == pin.caller) pins)) = ap (λ (ps : List PinOut). length (filter (is_other caller number) ps)) (h.of_each caller) in
+      omega (arith, total-without rows caller number, few caller number pins, mine, left, h.counted));
 }
   where
     each : (c : ℕ) (b : Bool) → (c == caller) ≡ b → cond b (filter (is_other caller number) (pins_by rows c)) (pins_by rows c) ≡ filter (λ (pin : PinOut). c == pin.caller) (filter (is_other caller number) pins)

@@ -1,35 +1,122 @@
 // An unplug from its pin to the next plug, the refusals in their order, and each call once with ample memory.
 ghost use Rattle.chv_defs.specs.declared.bank.BankCall.TheVariants as call;
-ghost use Rattle.std.specs.Prelude.{◌≡◌, IfOk, length};
+ghost use Rattle.chv_defs.specs.declared.bank.BankReply.TheVariants as reply;
+ghost use Rattle.std.specs.Prelude.{◌≡◌, ◌<◌, ◌≤◌, [], ◌∷◌, IfOk, length};
 
 use super::*;
 use chv_defs::{BankCall, BankReply, BookId, Bytes, Full, Refusal, Span};
 use std::alloc::{AllocError, Global};
 use std::test::Fail;
 
+// A bank of which the blocks below a number are open, with places for further entries of the owner.
+fn shaped(alloc: Global, places: u32, blocks: u32) -> Result<Bank, Fail>
+    requires places { places < 1048576 }
+    requires blocks { blocks ≤ 32768 }
+    ensures { IfOk result (λ bank. bank ≡ record {
+      zone = 0;
+      bank = 0;
+      history = record { caller = 0; call = call.Shape blocks; reply = reply.Done } ∷ [];
+      entries = places;
+      pages = 0;
+    }) }
+{
+    let mut bank = Bank::new(alloc, 0, 0)?;
+    bank.room(places + 1, 0)??;
+    bank.owner(&BankCall::Shape(blocks));
+    Ok(bank)
+}
+
+// A Read of the first bytes of a block.
+fn read_of(block: u32, len: u32) -> BankCall
+    ensures { result ≡ call.Read block 0 len }
+{
+    BankCall::Read {
+        block,
+        offset: 0,
+        len,
+    }
+}
+
+// A Pin of blocks.
+fn pin_of(first: u32, count: u32) -> BankCall
+    ensures { result ≡ call.Pin 7 (record { first = first; count = count }) }
+{
+    BankCall::Pin {
+        number: 7,
+        span: Span { first, count },
+    }
+}
+
 #[test]
-fn an_unplug_waits_for_its_pin(rt: HostRuntime) -> Result<(), Fail> {
+fn a_pinned_block_is_busy(rt: HostRuntime) -> Result<(), Fail> {
     let span = Span {
         first: 512,
         count: 1,
     };
-    let mut bank = Bank::new(rt.alloc(), 0, 0)?;
-    bank.room(5, 0)??;
-    bank.owner(&BankCall::Shape(513));
-    let pinned = bank.access(18, &BankCall::Pin { number: 7, span })??;
-    assert_eq!(rt; pinned, BankReply::Pinned);
-    let busy = bank.owner(&BankCall::Seal(span));
+    let mut bank = shaped(rt.alloc(), 1, 513)?;
+    assert_eq!(rt; bank.access(18, &pin_of(512, 1))??, BankReply::Pinned);
     assert_eq!(rt;
-        busy,
+        bank.owner(&BankCall::Seal(span)),
         BankReply::Busy {
             block: 512,
             caller: 18
         }
     );
+    Ok(())
+}
+
+#[test]
+fn an_unpinned_block_is_sealed(rt: HostRuntime) -> Result<(), Fail> {
+    let span = Span {
+        first: 512,
+        count: 1,
+    };
+    let mut bank = shaped(rt.alloc(), 1, 513)?;
+    bank.access(18, &pin_of(512, 1))??;
     bank.access(18, &BankCall::Unpin { number: 7 })??;
     assert_eq!(rt; bank.owner(&BankCall::Seal(span)), BankReply::Sealed);
+    Ok(())
+}
+
+#[test]
+fn a_closed_block_faults(rt: HostRuntime) -> Result<(), Fail> {
+    let span = Span {
+        first: 512,
+        count: 1,
+    };
+    let mut bank = shaped(rt.alloc(), 2, 513)?;
+    bank.owner(&BankCall::Seal(span));
     assert_eq!(rt; bank.owner(&BankCall::Close(span)), BankReply::Closed);
     assert_eq!(rt; bank.access(18, &read_of(512, 1))??, BankReply::Fault(512));
+    Ok(())
+}
+
+#[test]
+fn a_pin_on_the_last_block_seals_none(rt: HostRuntime) -> Result<(), Fail> {
+    let span = Span {
+        first: 512,
+        count: 4,
+    };
+    let mut bank = shaped(rt.alloc(), 1, 516)?;
+    bank.access(18, &pin_of(515, 1))??;
+    assert_eq!(rt;
+        bank.owner(&BankCall::Seal(span)),
+        BankReply::Busy {
+            block: 515,
+            caller: 18
+        }
+    );
+    assert!(rt; bank.access(1, &read_of(512, 1))?.is_ok());
+    Ok(())
+}
+
+#[test]
+fn an_access_after_an_unseal(rt: HostRuntime) -> Result<(), Fail> {
+    let span = Span { first: 0, count: 1 };
+    let mut bank = shaped(rt.alloc(), 2, 1)?;
+    bank.owner(&BankCall::Seal(span));
+    bank.owner(&BankCall::Unseal(span));
+    assert!(rt; bank.access(1, &read_of(0, 1))?.is_ok());
     Ok(())
 }
 
@@ -37,9 +124,7 @@ fn an_unplug_waits_for_its_pin(rt: HostRuntime) -> Result<(), Fail> {
 fn a_block_that_is_plugged_again_reads_as_zero(rt: HostRuntime) -> Result<(), Fail> {
     let alloc = rt.alloc();
     let span = Span { first: 0, count: 1 };
-    let mut bank = Bank::new(alloc, 0, 0)?;
-    bank.room(4, 0)??;
-    bank.owner(&BankCall::Shape(1));
+    let mut bank = shaped(alloc, 3, 1)?;
     let write = BankCall::Write {
         block: 0,
         offset: 0,
@@ -49,40 +134,81 @@ fn a_block_that_is_plugged_again_reads_as_zero(rt: HostRuntime) -> Result<(), Fa
     bank.owner(&BankCall::Seal(span));
     bank.owner(&BankCall::Close(span));
     bank.owner(&BankCall::Open(span));
-    let read = BankCall::Read {
-        block: 0,
-        offset: 0,
-        len: 1,
-    };
     assert_eq!(rt;
-        bank.access(1, &read)??,
+        bank.access(1, &read_of(0, 1))??,
         BankReply::Got(Bytes::of(alloc, b"\0")?)
     );
     Ok(())
 }
 
 #[test]
-fn frozen_before_sealed(rt: HostRuntime) -> Result<(), Fail> {
-    let span = Span { first: 0, count: 1 };
+fn a_byte_and_the_zeros_behind_it(rt: HostRuntime) -> Result<(), Fail> {
+    let alloc = rt.alloc();
+    let mut bank = shaped(alloc, 0, 256)?;
+    let write = BankCall::Write {
+        block: 0,
+        offset: 4096,
+        bytes: Bytes::of(alloc, &[0xab])?,
+    };
+    assert_eq!(rt; bank.access(1, &write)??, BankReply::Done);
     let read = BankCall::Read {
         block: 0,
-        offset: 0,
-        len: 1,
+        offset: 4096,
+        len: 8,
     };
-    let mut bank = Bank::new(rt.alloc(), 0, 0)?;
-    bank.room(4, 0)??;
-    bank.owner(&BankCall::Shape(1));
-    bank.owner(&BankCall::Seal(span));
+    assert_eq!(rt;
+        bank.access(2, &read)??,
+        BankReply::Got(Bytes::of(alloc, &[0xab, 0, 0, 0, 0, 0, 0, 0])?)
+    );
+    Ok(())
+}
+
+#[test]
+fn frozen_before_sealed(rt: HostRuntime) -> Result<(), Fail> {
+    let mut bank = shaped(rt.alloc(), 2, 1)?;
+    bank.owner(&BankCall::Seal(Span { first: 0, count: 1 }));
     bank.owner(&BankCall::Freeze);
     assert_eq!(rt;
-        bank.access(1, &read)?.err(),
+        bank.access(1, &read_of(0, 1))?.err(),
         Some(Refusal::Frozen { seen: 3 })
     );
-    bank.owner(&BankCall::Thaw);
+    Ok(())
+}
+
+#[test]
+fn sealed_before_full(rt: HostRuntime) -> Result<(), Fail> {
+    let mut bank = shaped(rt.alloc(), 1_048_575, 1)?;
+    bank.owner(&BankCall::Seal(Span { first: 0, count: 1 }));
     assert_eq!(rt;
-        bank.access(1, &read)?.err(),
-        Some(Refusal::Sealed { block: 0, seen: 4 })
+        bank.access(1, &read_of(0, 1))?.err(),
+        Some(Refusal::Sealed { block: 0, seen: 2 })
     );
+    Ok(())
+}
+
+#[test]
+fn a_pin_needs_two_places(rt: HostRuntime) -> Result<(), Fail> {
+    let mut bank = shaped(rt.alloc(), 1_048_572, 1)?;
+    bank.access(1, &pin_of(0, 1))??;
+    assert_eq!(rt;
+        bank.access(2, &pin_of(0, 1))?.err(),
+        Some(Refusal::Full(Full {
+            book: BookId::Bank { zone: 0, bank: 0 },
+            entries: 1_048_575,
+            bytes: 0,
+        }))
+    );
+    assert!(rt; bank.access(2, &read_of(0, 1))?.is_ok());
+    Ok(())
+}
+
+#[test]
+fn an_unpin_has_its_place(rt: HostRuntime) -> Result<(), Fail> {
+    let mut bank = shaped(rt.alloc(), 1_048_573, 1)?;
+    bank.access(1, &pin_of(0, 1))??;
+    assert!(rt; bank.access(2, &read_of(0, 1))?.is_err());
+    let done = bank.access(1, &BankCall::Unpin { number: 7 })??;
+    assert_eq!(rt; done, BankReply::Done);
     Ok(())
 }
 
@@ -91,13 +217,8 @@ fn a_full_bank(rt: HostRuntime) -> Result<(), Fail> {
     let mut bank = Bank::new(rt.alloc(), 0, 0)?;
     assert!(rt; bank.room(1_048_577, 0)?.is_err());
     bank.room(1, 4096)??;
-    let read = BankCall::Read {
-        block: 0,
-        offset: 0,
-        len: 1,
-    };
     assert_eq!(rt;
-        bank.access(1, &read)?.err(),
+        bank.access(1, &read_of(0, 1))?.err(),
         Some(Refusal::Full(Full {
             book: BookId::Bank { zone: 0, bank: 0 },
             entries: 1,
@@ -134,127 +255,5 @@ fn pages_are_filled_and_shown(rt: HostRuntime) -> Result<(), Fail> {
     bank.owner(&BankCall::Thaw);
     bank.owner(&BankCall::Wipe);
     assert!(rt; bank.pages()?.is_empty());
-    Ok(())
-}
-
-// A Read of the first bytes of a block.
-fn read_of(block: u32, len: u32) -> BankCall
-    ensures { result ≡ call.Read block 0 len }
-{
-    BankCall::Read {
-        block,
-        offset: 0,
-        len,
-    }
-}
-
-#[test]
-fn a_pin_needs_two_places(rt: HostRuntime) -> Result<(), Fail> {
-    let span = Span { first: 0, count: 1 };
-    let mut bank = Bank::new(rt.alloc(), 0, 0)?;
-    bank.room(1_048_573, 0)??;
-    bank.owner(&BankCall::Shape(1));
-    bank.access(1, &BankCall::Pin { number: 1, span })??;
-    assert_eq!(rt;
-        bank.access(2, &BankCall::Pin { number: 1, span })?.err(),
-        Some(Refusal::Full(Full {
-            book: BookId::Bank { zone: 0, bank: 0 },
-            entries: 1_048_575,
-            bytes: 0,
-        }))
-    );
-    assert_eq!(rt;
-        bank.access(1, &BankCall::Unpin { number: 1 })??,
-        BankReply::Done
-    );
-    assert!(rt; bank.access(2, &read_of(0, 1))?.is_ok());
-    Ok(())
-}
-
-#[test]
-fn a_byte_and_the_zeros_behind_it(rt: HostRuntime) -> Result<(), Fail> {
-    let alloc = rt.alloc();
-    let mut bank = Bank::new(alloc, 0, 0)?;
-    bank.room(1, 0)??;
-    bank.owner(&BankCall::Shape(256));
-    let write = BankCall::Write {
-        block: 0,
-        offset: 4096,
-        bytes: Bytes::of(alloc, &[0xab])?,
-    };
-    assert_eq!(rt; bank.access(1, &write)??, BankReply::Done);
-    let read = BankCall::Read {
-        block: 0,
-        offset: 4096,
-        len: 8,
-    };
-    assert_eq!(rt;
-        bank.access(2, &read)??,
-        BankReply::Got(Bytes::of(alloc, &[0xab, 0, 0, 0, 0, 0, 0, 0])?)
-    );
-    Ok(())
-}
-
-#[test]
-fn a_pin_on_the_last_block_seals_none(rt: HostRuntime) -> Result<(), Fail> {
-    let span = Span {
-        first: 512,
-        count: 4,
-    };
-    let last = Span {
-        first: 515,
-        count: 1,
-    };
-    let mut bank = Bank::new(rt.alloc(), 0, 0)?;
-    bank.room(2, 0)??;
-    bank.owner(&BankCall::Shape(516));
-    let pin = BankCall::Pin {
-        number: 1,
-        span: last,
-    };
-    bank.access(18, &pin)??;
-    assert_eq!(rt;
-        bank.owner(&BankCall::Seal(span)),
-        BankReply::Busy {
-            block: 515,
-            caller: 18
-        }
-    );
-    assert!(rt; bank.access(1, &read_of(512, 1))?.is_ok());
-    Ok(())
-}
-
-#[test]
-fn an_access_after_an_unseal(rt: HostRuntime) -> Result<(), Fail> {
-    let span = Span { first: 0, count: 1 };
-    let mut bank = Bank::new(rt.alloc(), 0, 0)?;
-    bank.room(3, 0)??;
-    bank.owner(&BankCall::Shape(1));
-    assert_eq!(rt; bank.owner(&BankCall::Seal(span)), BankReply::Sealed);
-    bank.owner(&BankCall::Unseal(span));
-    assert!(rt; bank.access(1, &read_of(0, 1))?.is_ok());
-    Ok(())
-}
-
-#[test]
-fn sealed_before_full(rt: HostRuntime) -> Result<(), Fail> {
-    let span = Span { first: 0, count: 1 };
-    let mut bank = Bank::new(rt.alloc(), 0, 0)?;
-    bank.room(1_048_576, 0)??;
-    bank.owner(&BankCall::Shape(1));
-    bank.owner(&BankCall::Seal(span));
-    assert_eq!(rt;
-        bank.access(1, &read_of(0, 1))?.err(),
-        Some(Refusal::Sealed { block: 0, seen: 2 })
-    );
-    bank.owner(&BankCall::Unseal(span));
-    assert_eq!(rt;
-        bank.access(1, &read_of(0, 1))?.err(),
-        Some(Refusal::Full(Full {
-            book: BookId::Bank { zone: 0, bank: 0 },
-            entries: 1_048_576,
-            bytes: 0,
-        }))
-    );
     Ok(())
 }
