@@ -1,82 +1,85 @@
 // The control value.
-ghost use Rattle.std.specs.Prelude.{◌≡◌, ◌≢◌, ◌≤◌, [], ◌∷◌, ◌++◌, IfOk, IfErr, OnErr};
+ghost use Rattle.std.specs.Prelude.{◌≡◌, ◌≢◌, ◌≤◌, ℕ, true, false, IsOk, IfOk, IfErr, OnErr};
 ghost use Rattle.chv_defs.specs.declared.machine.Life.TheVariants as life;
+ghost use Rattle.chv_defs.specs.declared.control.ControlCall.TheVariants.{Stop};
+ghost use Rattle.chv_defs.specs.BankState.{most_entries, most_payload};
 ghost use Rattle.chv_defs.specs.Shown.{shown};
-ghost use Rattle.chv_defs.specs.ApiStep.{reply_to, after};
+ghost use Rattle.chv_defs.specs.Desks.{can_have, is_held, is_session_call};
+ghost use Rattle.chv_defs.specs.ControlBook.{payload, places};
 ghost use Rattle.chv_defs.specs.ControlStep.{MayCall};
-ghost use Rattle.chv_defs.specs.LegalControl.{IsLegal};
+ghost use Rattle.chv_defs.specs.LegalControl.{IsLegal, answers_by};
 
-use crate::api::{answer, leave};
-use crate::show::show;
+use crate::inner::Inner;
+use crate::shelf::shelf_of;
 use crate::start::Start;
-use chv_defs::{ControlCall, ControlEntry, ControlReply, Info, Life, Machine, Row, copy_of};
+use chv_ctl_api::{api_leave, api_reply, show};
+use chv_defs::{
+    ControlCall, ControlEntry, ControlReply, Info, Life, Machine, Name, OnShelf, Row, copy_of,
+};
+use chv_io::Disk;
+use chv_store::AnyDisk;
 use std::alloc::{AllocError, Global};
 use std::marker::Model;
 
-/// The control machine and its history. By its type the history is legal and leads to the machine's state.
+/// The control machine, its history, and the disks that stand by. By its type the history is legal and leads to the
+/// machine's state, and there is room for the entry of a Stop where none stands.
 #[derive(Drop)]
-pub struct Control {
+pub struct Control<D: Disk> {
     alloc: Global,
     machine: Machine,
     history: Vec<ControlEntry>,
+    // Bytes of payload that the history has.
+    bytes: u64,
+    shelf: Row<OnShelf>,
+    disks: Vec<(Name, AnyDisk<D>)>,
     sessions: u32,
 }
 
-impl Model for Control {
-    ghost use Rattle.chv_control.specs.Control.{Controlled, IsKept};
+impl<D: Disk> Model for Control<D> {
+    ghost use Rattle.std.specs.Prelude.{◌≡◌, ◌+◌, ◌≤◌, if◌then◌else◌, vec_len, vec_capacity};
+    ghost use Rattle.chv_defs.specs.ControlBook.{payload};
+    ghost use Rattle.chv_control.specs.Control.{Controlled, IsKept, shelf_of};
 
-    ghost Value = { Controlled };
+    ghost Value = { Controlled D };
 
-    ghost view = { λ c. record { machine = c.machine; history = c.history.items; sessions = c.sessions } };
+    ghost view = { λ c. record { machine = c.machine; history = c.history.items; disks = c.disks.items; sessions = c.sessions } };
 
-    ghost invariant = { λ c. IsKept (record { machine = c.machine; history = c.history.items; sessions = c.sessions }) };
+    ghost invariant = { λ c.
+        (c.shelf ≡ shelf_of D.sector_count c.disks.items)
+        × (c.bytes ≡ payload c.history.items)
+        × (vec_len c.history + (if c.machine.stopped then 0 else 1) ≤ vec_capacity c.history)
+        × IsKept c.shelf c.machine c.history.items };
 }
 
-impl Control {
-    ghost use Rattle.chv_control.specs.Control.{fresh};
+impl<D: Disk> Control<D> {
+    ghost use Rattle.chv_control.specs.Control.{answer_to, entered, entry_of, fresh, shelf_of};
 
     /// A control value to which nothing happened yet. An `Err` hands the argument back: there is no memory.
-    pub fn new(alloc: Global, start: Start) -> Result<Control, Start>
+    pub fn new(alloc: Global, start: Start<D>) -> Result<Control<D>, Start<D>>
         requires { start.sessions ≤ 16 }
-        ensures ok { IfOk result (λ control. control ≡ fresh start.sessions) }
+        ensures ok { IfOk result (λ control. control ≡ fresh start.disks.items start.sessions) }
         ensures err { IfErr result (λ back. back ≡ start) }
     {
-        let Ok(history) = Vec::with_capacity(alloc, 1) else {
-            return Err(start);
-        };
-        Ok(Control {
-            alloc,
-            machine: Machine {
-                life: Life::None,
-                config: None,
-                ended: Row::empty(alloc),
-                stopped: false,
-            },
-            history,
-            sessions: start.sessions,
-        })
+        unreachable!()
     }
 
-    /// Makes a call of a session: appends its one entry, and answers it. An `Err` changes nothing.
-    pub fn apply(&mut self, caller: u32, call: &ControlCall) -> Result<ControlReply, AllocError>
+    /// Makes a call: appends its one entry, and answers it. `Full` comes exactly where the entry would pass a limit of the
+    /// book; then and at an `Err` nothing is changed. A Stop is always entered, and takes no memory.
+    pub fn apply(
+        &mut self,
+        caller: u32,
+        call: &ControlCall,
+    ) -> Result<Result<ControlReply, Inner>, AllocError>
         requires { MayCall self.old.machine caller call.now }
-        ensures reply { IfOk result (λ reply. reply ≡ reply_to self.old.machine call.now) }
-        ensures state { IfOk result (λ reply. self.new.machine ≡ after self.old.machine caller call.now reply) }
-        ensures entry { IfOk result (λ reply. self.new.history
-            ≡ self.old.history ++ record { caller = caller; call = call.now; reply = reply } ∷ []) }
-        ensures sessions { self.new.sessions ≡ self.old.sessions }
+        ensures answer { IfOk result (λ answer. answer ≡ answer_to (shelf_of D.sector_count self.old.disks) self.old caller call.now) }
+        ensures entered { IfOk result (λ answer. IfOk answer (λ reply. self.new
+            ≡ entered self.old (record { caller = caller; call = call.now; reply = reply }))) }
+        ensures fits { is_session_call call.now ≡ true → IfOk result (λ answer. IfOk answer (λ reply. can_have call.now reply ≡ true)) }
+        ensures refused { IfOk result (λ answer. OnErr answer (self.new ≡ self.old)) }
+        ensures stop { call.now ≡ Stop → IsOk result }
         ensures err { OnErr result (self.new ≡ self.old) }
     {
-        self.history.reserve(1)?;
-        let reply = answer(self.alloc, &self.machine, call)?;
-        let entry = ControlEntry {
-            caller,
-            call: copy_of(call)?,
-            reply: copy_of(&reply)?,
-        };
-        leave(self.alloc, &mut self.machine, caller, call, &reply)?;
-        self.history.push(entry).unwrap();
-        Ok(reply)
+        unreachable!()
     }
 
     /// What `vm.info` shows. There is a machine.
@@ -84,34 +87,41 @@ impl Control {
         requires { self.now.machine.life ≢ life.None }
         ensures { IfOk result (λ info. info ≡ shown self.now.machine) }
     {
-        match &self.machine.config {
-            Some(checked) => show(self.alloc, &self.machine, checked),
-            None => unreachable!(),
-        }
+        show(self.alloc, &self.machine)
     }
 
-    /// The history, which is legal and leads to the machine's state.
+    /// Whether a Stop was entered.
+    pub fn stopped(&self) -> bool
+        ensures { result ≡ self.now.machine.stopped }
+    {
+        self.machine.stopped
+    }
+
+    /// The history. It is legal and leads to the machine's state, no caller's latest answer is Holding, and it keeps within
+    /// the limits of the book.
     pub fn history(&self) -> &[ControlEntry]
         ensures value { result.now ≡ self.now.history }
-        ensures legal { IsLegal self.now.history self.now.machine }
+        ensures legal { IsLegal (shelf_of D.sector_count self.now.disks) self.now.history self.now.machine }
+        ensures settled { (caller : ℕ) → is_held (answers_by caller self.now.history) ≡ false }
+        ensures entries { places self.now.machine self.now.history ≤ most_entries }
+        ensures bytes { payload self.now.history ≤ most_payload }
     {
         self.history.as_slice()
     }
 
-    /// The history alone. Takes no memory.
-    pub fn into_history(self) -> Row<ControlEntry>
-        ensures value { result ≡ self.history }
-        ensures legal { IsLegal self.history self.machine }
+    /// The history, and what the control value was made of. Takes no memory.
+    pub fn into_parts(self) -> (Row<ControlEntry>, Start<D>)
+        ensures history { result.0 ≡ self.history }
+        ensures disks { result.1.disks.items ≡ self.disks }
+        ensures sessions { result.1.sessions ≡ self.sessions }
+        ensures legal { IsLegal (shelf_of D.sector_count self.disks) self.history self.machine }
     {
-        Row::new(self.history)
-    }
-
-    /// What the control value was made of. Takes no memory.
-    pub fn into_start(self) -> Start
-        ensures { result.sessions ≡ self.sessions }
-    {
-        Start {
-            sessions: self.sessions,
-        }
+        (
+            Row::new(self.history),
+            Start {
+                disks: self.disks,
+                sessions: self.sessions,
+            },
+        )
     }
 }

@@ -1,14 +1,14 @@
-//! The control value: the control machine and its history, which is legal by the value's type.
+//! The control value: the control machine, its history, which is legal by the value's type, and the disks that stand by.
 #![tactic(auto)]
 
-mod api;
 mod control;
-mod ended;
+mod inner;
 mod laws;
-mod show;
+mod shelf;
 mod start;
 
 pub use control::Control;
+pub use inner::Inner;
 pub use laws::refusals_change_nothing;
 pub use start::Start;
 

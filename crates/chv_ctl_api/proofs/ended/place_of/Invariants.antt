@@ -1,6 +1,6 @@
 use Rattle.std.proofs.Common.{length, ◌-◌, ◌≡◌, ◌≤◌, ◌++◌, take, drop}
 use Rattle.chv_defs.specs.ApiStep.{with_number}
-use Rattle.chv_control.proofs.ended.place_of.Given as goal
+use Rattle.chv_ctl_api.proofs.ended.place_of.Given as goal
 
 abbrev pub invariant-loop-at : goal.invariant-loop-at
 invariant-loop-at l = (l.at ≤ length l.numbers) × (with_number l.number l.numbers ≡ take l.at l.numbers ++ with_number l.number (drop l.at l.numbers))

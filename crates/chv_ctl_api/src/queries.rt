@@ -1,23 +1,57 @@
 // What `vm.info` shows.
-ghost use Rattle.std.specs.Prelude.{◌≡◌, ◌<◌, ◌^◌, Some, IfOk, IsSome, map, sum_by};
-ghost use Rattle.chv_defs.specs.Shown.{shown, shown_state, zone_before_boot};
-ghost use Rattle.chv_control.specs.Control.{HasSmallZones};
+ghost use Rattle.std.specs.Prelude.{◌≡◌, ◌≢◌, ◌<◌, ◌^◌, None, IfOk, map, sum_by};
+ghost use Rattle.chv_defs.specs.Machine.{IsWellFormed};
+ghost use Rattle.chv_defs.specs.Shown.{shown, shown_before_boot, shown_state, zone_before_boot};
+ghost use Rattle.chv_defs.specs.ApiStep.{reply_to};
 ghost use Rattle.chv_defs.specs.declared.config.ZoneConfig.{ZoneConfig};
+ghost use Rattle.chv_defs.specs.declared.control.ControlCall.TheVariants as call;
 
-use chv_defs::{Checked, Info, Life, Machine, Row, ShownState, ZoneConfig, ZoneInfo, copy_of};
+use chv_defs::{
+    Checked, ControlReply, Info, Life, Machine, OnShelf, Row, Rule, ShownState, ZoneConfig,
+    ZoneInfo, copy_of,
+};
 use std::alloc::{AllocError, Global};
 
+/// The answer to Info.
+pub fn answer_info(
+    alloc: Global,
+    machine: &Machine,
+    shelf: &Row<OnShelf>,
+) -> Result<ControlReply, AllocError>
+    requires { IsWellFormed machine.now }
+    ensures { IfOk result (λ reply. reply ≡ reply_to shelf.now machine.now call.Info) }
+{
+    if machine.config.is_none() {
+        return Ok(ControlReply::Ruled(Rule::NotCreated));
+    }
+    Ok(ControlReply::Shown(show(alloc, machine)?))
+}
+
 /// What is shown of a machine that has a configuration.
-pub fn show(alloc: Global, machine: &Machine, checked: &Checked) -> Result<Info, AllocError>
-    requires configured { machine.now.config ≡ Some checked.now }
-    requires small { HasSmallZones machine.now.config }
+pub fn show(alloc: Global, machine: &Machine) -> Result<Info, AllocError>
+    requires formed { IsWellFormed machine.now }
+    requires created { machine.now.config ≢ None }
     ensures { IfOk result (λ info. info ≡ shown machine.now) }
+{
+    match &machine.config {
+        Some(checked) => show_before_boot(alloc, state_of(machine.life), checked),
+        None => unreachable!(),
+    }
+}
+
+fn show_before_boot(
+    alloc: Global,
+    state: ShownState,
+    checked: &Checked,
+) -> Result<Info, AllocError>
+    requires { sum_by (λ (zone : ZoneConfig). zone.size) checked.now.zones < 2 ^ 64 }
+    ensures { IfOk result (λ info. info ≡ shown_before_boot state checked.now) }
 {
     Ok(Info {
         config: copy_of(&checked.config)?,
         devices: Row::empty(alloc),
         actual_size: total_size(checked.zones.as_slice()),
-        state: state_of(machine.life),
+        state,
         vcpus: Row::empty(alloc),
         zones: zones_of(alloc, checked.zones.as_slice())?,
     })

@@ -1,0 +1,2 @@
+pub mod Unbooted
+pub mod WithNumber
