@@ -1,2 +1,4 @@
-pub mod Unbooted
+pub mod Verdicts
+pub mod Kept
+pub mod Ids
 pub mod WithNumber

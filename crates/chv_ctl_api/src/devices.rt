@@ -131,9 +131,15 @@ pub fn remove_disk(alloc: Global, machine: &mut Machine, id: &Text)
     requires { machine.old.config ≢ None }
     ensures { machine.new ≡ record machine.old { config = Some (without_disk (now_of machine.old) id.now) } }
 {
-    let Some(checked) = &mut machine.config else {
-        unreachable!()
-    };
+    match &mut machine.config {
+        Some(checked) => drop_disk(alloc, checked, id),
+        None => unreachable!(),
+    }
+}
+
+fn drop_disk(alloc: Global, checked: &mut Checked, id: &Text)
+    ensures { checked.new ≡ without_disk checked.old id.now }
+{
     keep_others(alloc, &mut checked.config.disks, id);
 }
 
