@@ -5,16 +5,20 @@ ghost use Rattle.chv_defs.specs.declared.control.ControlCall.TheVariants.{Stop};
 ghost use Rattle.chv_defs.specs.BankState.{most_entries, most_payload};
 ghost use Rattle.chv_defs.specs.Shown.{shown};
 ghost use Rattle.chv_defs.specs.Desks.{can_have, is_held, is_session_call};
-ghost use Rattle.chv_defs.specs.ControlBook.{payload, places};
+ghost use Rattle.chv_defs.specs.ControlBook.{is_stop, payload, places};
+ghost use Rattle.chv_defs.specs.Machine.{empty_machine};
+ghost use Rattle.chv_defs.specs.declared.control.ControlReply.TheVariants.{Done};
 ghost use Rattle.chv_defs.specs.ControlStep.{MayCall};
 ghost use Rattle.chv_defs.specs.LegalControl.{IsLegal, answers_by};
 
+use crate::book::full_at;
 use crate::inner::Inner;
+use crate::made::{leave, make};
 use crate::shelf::shelf_of;
 use crate::start::Start;
-use chv_ctl_api::{api_leave, api_reply, show};
+use chv_ctl_api::show;
 use chv_defs::{
-    ControlCall, ControlEntry, ControlReply, Info, Life, Machine, Name, OnShelf, Row, copy_of,
+    ControlCall, ControlEntry, ControlReply, Info, Life, Machine, Name, OnShelf, Row,
 };
 use chv_io::Disk;
 use chv_store::AnyDisk;
@@ -51,6 +55,17 @@ impl<D: Disk> Model for Control<D> {
         × IsKept c.shelf c.machine c.history.items };
 }
 
+fn empty_machine(alloc: Global) -> Machine
+    ensures { result ≡ empty_machine }
+{
+    Machine {
+        life: Life::None,
+        config: None,
+        ended: Row::empty(alloc),
+        stopped: false,
+    }
+}
+
 impl<D: Disk> Control<D> {
     ghost use Rattle.chv_control.specs.Control.{answer_to, entered, entry_of, fresh, shelf_of};
 
@@ -60,7 +75,21 @@ impl<D: Disk> Control<D> {
         ensures ok { IfOk result (λ control. control ≡ fresh start.disks.items start.sessions) }
         ensures err { IfErr result (λ back. back ≡ start) }
     {
-        unreachable!()
+        let Ok(shelf) = shelf_of(alloc, start.disks.as_slice()) else {
+            return Err(start);
+        };
+        let Ok(history) = Vec::with_capacity(alloc, 1) else {
+            return Err(start);
+        };
+        Ok(Control {
+            alloc,
+            machine: empty_machine(alloc),
+            history,
+            bytes: 0,
+            shelf,
+            disks: start.disks,
+            sessions: start.sessions,
+        })
     }
 
     /// Makes a call: appends its one entry, and answers it. `Full` comes exactly where the entry would pass a limit of the
@@ -79,7 +108,57 @@ impl<D: Disk> Control<D> {
         ensures stop { call.now ≡ Stop → IsOk result }
         ensures err { OnErr result (self.new ≡ self.old) }
     {
-        unreachable!()
+        match call {
+            ControlCall::Stop => Ok(Ok(self.stop(caller))),
+            _ => self.enter(caller, call),
+        }
+    }
+
+    // Enters a Stop, for which there is room.
+    fn stop(&mut self, caller: u32) -> ControlReply
+        requires { self.old.machine.stopped ≡ false }
+        ensures reply { result ≡ Done }
+        ensures entered { self.new ≡ entered self.old (record { caller = caller; call = Stop; reply = Done }) }
+    {
+        self.machine.stopped = true;
+        let entry = ControlEntry {
+            caller,
+            call: ControlCall::Stop,
+            reply: ControlReply::Done,
+        };
+        self.history.push(entry).unwrap();
+        ControlReply::Done
+    }
+
+    // Makes any other call.
+    fn enter(
+        &mut self,
+        caller: u32,
+        call: &ControlCall,
+    ) -> Result<Result<ControlReply, Inner>, AllocError>
+        requires may { MayCall self.old.machine caller call.now }
+        requires other { is_stop call.now ≡ false }
+        ensures answer { IfOk result (λ answer. answer ≡ answer_to (shelf_of D.sector_count self.old.disks) self.old caller call.now) }
+        ensures entered { IfOk result (λ answer. IfOk answer (λ reply. self.new
+            ≡ entered self.old (record { caller = caller; call = call.now; reply = reply }))) }
+        ensures refused { IfOk result (λ answer. OnErr answer (self.new ≡ self.old)) }
+        ensures err { OnErr result (self.new ≡ self.old) }
+    {
+        self.history.reserve(2)?;
+        let made = make(self.alloc, &self.machine, &self.shelf, caller, call)?;
+        if let Some(full) = full_at(
+            &self.machine,
+            self.history.as_slice(),
+            self.bytes,
+            &made.entry,
+            made.added,
+        ) {
+            return Ok(Err(Inner::Full(full)));
+        }
+        let made = leave(self.alloc, &mut self.machine, &self.shelf, made)?;
+        self.bytes += made.added;
+        self.history.push(made.entry).unwrap();
+        Ok(Ok(made.reply))
     }
 
     /// What `vm.info` shows. There is a machine.
@@ -97,6 +176,7 @@ impl<D: Disk> Control<D> {
         self.machine.stopped
     }
 
+    #[tactic(auto, using(crate::proofs::Settled::is_settled))]
     /// The history. It is legal and leads to the machine's state, no caller's latest answer is Holding, and it keeps within
     /// the limits of the book.
     pub fn history(&self) -> &[ControlEntry]

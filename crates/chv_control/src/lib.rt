@@ -1,9 +1,11 @@
 //! The control value: the control machine, its history, which is legal by the value's type, and the disks that stand by.
 #![tactic(auto)]
 
+mod book;
 mod control;
 mod inner;
 mod laws;
+mod made;
 mod shelf;
 mod start;
 
