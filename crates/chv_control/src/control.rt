@@ -141,6 +141,7 @@ impl<D: Disk> Control<D> {
         ensures answer { IfOk result (λ answer. answer ≡ answer_to (shelf_of D.sector_count self.old.disks) self.old caller call.now) }
         ensures entered { IfOk result (λ answer. IfOk answer (λ reply. self.new
             ≡ entered self.old (record { caller = caller; call = call.now; reply = reply }))) }
+        ensures fits { is_session_call call.now ≡ true → IfOk result (λ answer. IfOk answer (λ reply. can_have call.now reply ≡ true)) }
         ensures refused { IfOk result (λ answer. OnErr answer (self.new ≡ self.old)) }
         ensures err { OnErr result (self.new ≡ self.old) }
     {

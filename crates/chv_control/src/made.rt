@@ -1,5 +1,6 @@
 // An entry is made, and what its call leaves.
-ghost use Rattle.std.specs.Prelude.{◌≡◌, IfOk, OnOk, OnErr};
+ghost use Rattle.std.specs.Prelude.{◌≡◌, true, IfOk, OnOk, OnErr};
+ghost use Rattle.chv_defs.specs.Desks.{can_have, is_session_call};
 ghost use Rattle.chv_defs.specs.Machine.{IsWellFormed};
 ghost use Rattle.chv_defs.specs.ApiStep.{after, reply_to};
 ghost use Rattle.chv_defs.specs.ControlBook.{entry_payload};
@@ -20,6 +21,7 @@ pub struct Made {
 }
 
 /// The entry of a call, answered by its rules.
+#[tactic(auto, using(crate::proofs::Fits::fits))]
 pub fn make(
     alloc: Global,
     machine: &Machine,
@@ -32,6 +34,7 @@ pub fn make(
     ensures entry { IfOk result (λ made. made.entry ≡ entry_of shelf.now machine.now caller call.now) }
     ensures reply { IfOk result (λ made. made.reply ≡ reply_to shelf.now machine.now call.now) }
     ensures added { IfOk result (λ made. made.added ≡ entry_payload made.entry) }
+    ensures fits { is_session_call call.now ≡ true → IfOk result (λ made. can_have call.now made.reply ≡ true) }
 {
     let reply = api_reply(alloc, machine, shelf, call)?;
     let entry = ControlEntry {
