@@ -1,6 +1,18 @@
-//! Stub.
+//! The control value: the control machine, its history, which is legal by the value's type, and the disks that stand by.
 #![tactic(auto)]
 
+mod book;
+mod control;
+mod inner;
+mod laws;
+mod made;
+mod shelf;
 mod start;
 
+pub use control::Control;
+pub use inner::Inner;
+pub use laws::refusals_change_nothing;
 pub use start::Start;
+
+#[cfg(test)]
+mod tests;

@@ -5,7 +5,7 @@ use chv_store::AnyDisk;
 /// What a control value is made of.
 #[derive(Drop)]
 pub struct Start<D> {
-    /// The disks that stand by. Their names are distinct.
+    /// The disks that stand by, each behind its name.
     pub disks: Vec<(Name, AnyDisk<D>)>,
     /// How many sessions there are, at most 16. Their callers are 1, 2, and so on.
     pub sessions: u32,

@@ -1,0 +1,66 @@
+-- What contracts see of the control value, and what its type keeps.
+use Rattle.std.specs.Prelude.{◌≡◌, ◌≤◌, ◌<◌, ◌+◌, ℕ, List, [], ◌∷◌, ◌++◌, length, map, Option, None, Some, Result, Ok, Err, false}
+use Rattle.chv_defs.specs.declared.machine.Machine.{Machine}
+use Rattle.chv_defs.specs.declared.bank.Full.{Full}
+use Rattle.chv_defs.specs.declared.scene.OnShelf.{OnShelf}
+use Rattle.chv_defs.specs.declared.control.ControlCall.{ControlCall}
+use Rattle.chv_defs.specs.declared.control.ControlReply.{ControlReply}
+use Rattle.chv_defs.specs.declared.control.ControlEntry.{ControlEntry}
+use Rattle.chv_defs.specs.BankState.{most_entries, most_payload}
+use Rattle.chv_defs.specs.Machine.{IsWellFormed, empty_machine}
+use Rattle.chv_defs.specs.ApiStep.{after, reply_to}
+use Rattle.chv_defs.specs.ControlBook.{full_at, payload, places}
+use Rattle.chv_defs.specs.LegalControl.{IsLegal}
+use Rattle.chv_store.specs.declared.any_disk.AnyDisk.{AnyDisk}
+use Rattle.chv_store.specs.AnyDisk.{of_either}
+use Rattle.chv_store.specs.MemDisk.{Platter}
+use Rattle.chv_control.specs.declared.inner.Inner.{Inner}
+use Rattle.chv_control.specs.declared.inner.Inner.TheVariants as inner
+
+-- the state, the history that led to it, the disks that stand by, each behind its name, and how many sessions there are
+pub record Controlled (D : Type 0) : Type 0 where
+  pub machine : Machine
+  pub history : List ControlEntry
+  pub disks : List (List ℕ × AnyDisk D)
+  pub sessions : ℕ
+
+-- what is known of a disk that stands by: its name, and how many sectors it has
+abbrev pub on_shelf : {D : Type 0} → (D → ℕ) → (List ℕ × AnyDisk D) → OnShelf
+on_shelf count disk = record { name = disk.0; sectors = of_either count (λ (made : Platter). length made.sectors) disk.1 }
+
+-- what is known of the disks that stand by, where this counts the sectors of a disk that was handed in
+abbrev pub shelf_of : {D : Type 0} → (D → ℕ) → List (List ℕ × AnyDisk D) → List OnShelf
+shelf_of count disks = map (on_shelf count) disks
+
+-- a control value with these disks and sessions, to which nothing happened yet
+abbrev pub fresh : {D : Type 0} → List (List ℕ × AnyDisk D) → ℕ → Controlled D
+fresh disks sessions = record { machine = empty_machine; history = []; disks = disks; sessions = sessions }
+
+-- the entry of a call, answered by its rules
+abbrev pub entry_of : List OnShelf → Machine → ℕ → ControlCall → ControlEntry
+entry_of shelf m caller call = record { caller = caller; call = call; reply = reply_to shelf m call }
+
+-- an answer, unless the book is full
+abbrev pub unless_full : Option Full → ControlReply → Result ControlReply Inner
+unless_full None reply = Ok reply
+unless_full (Some full) reply = Err (inner.Full full)
+
+-- the answer to a call: Full exactly where its entry passes a limit of the book, and else the answer by its rules
+abbrev pub answer_to : {D : Type 0} → List OnShelf → Controlled D → ℕ → ControlCall → Result ControlReply Inner
+answer_to shelf control caller call =
+    unless_full (full_at control.machine control.history (entry_of shelf control.machine caller call)) (reply_to shelf control.machine call)
+
+-- the control value behind one more entry
+abbrev pub entered : {D : Type 0} → Controlled D → ControlEntry → Controlled D
+entered control entry = record control {
+  machine = after control.machine entry.caller entry.call entry.reply;
+  history = control.history ++ entry ∷ [];
+}
+
+-- what the type keeps, where these disks stand by: the history is legal and leads to the state, which is well formed, and
+-- keeps within the limits of the book, the place of a Stop counted
+pub record IsKept (shelf : List OnShelf) (machine : Machine) (history : List ControlEntry) : Type 0 where
+  pub legal : IsLegal shelf history machine
+  pub formed : IsWellFormed machine
+  pub entries : places machine history ≤ most_entries
+  pub bytes : payload history ≤ most_payload

@@ -1,0 +1,77 @@
+// An entry is made, and what its call leaves.
+ghost use Rattle.std.specs.Prelude.{◌≡◌, true, IfOk, OnOk, OnErr};
+ghost use Rattle.chv_defs.specs.Desks.{can_have, is_session_call};
+ghost use Rattle.chv_defs.specs.Machine.{IsWellFormed};
+ghost use Rattle.chv_defs.specs.ApiStep.{after, reply_to};
+ghost use Rattle.chv_defs.specs.ControlBook.{entry_payload};
+ghost use Rattle.chv_ctl_api.specs.ApiCalls.{IsApiCall};
+ghost use Rattle.chv_control.specs.Control.{entry_of};
+
+use crate::book::payload_of;
+use chv_ctl_api::{api_leave, api_reply};
+use chv_defs::{ControlCall, ControlEntry, ControlReply, Machine, OnShelf, Row, copy_of};
+use std::alloc::{AllocError, Global};
+
+/// An entry that is not entered yet, its reply once more, and its payload in bytes.
+#[derive(Drop)]
+pub struct Made {
+    pub entry: ControlEntry,
+    pub reply: ControlReply,
+    pub added: u64,
+}
+
+/// The entry of a call, answered by its rules.
+#[tactic(auto, using(crate::proofs::Fits::fits))]
+pub fn make(
+    alloc: Global,
+    machine: &Machine,
+    shelf: &Row<OnShelf>,
+    caller: u32,
+    call: &ControlCall,
+) -> Result<Made, AllocError>
+    requires formed { IsWellFormed machine.now }
+    requires call { IsApiCall call.now }
+    ensures entry { IfOk result (λ made. made.entry ≡ entry_of shelf.now machine.now caller call.now) }
+    ensures reply { IfOk result (λ made. made.reply ≡ reply_to shelf.now machine.now call.now) }
+    ensures added { IfOk result (λ made. made.added ≡ entry_payload made.entry) }
+    ensures fits { is_session_call call.now ≡ true → IfOk result (λ made. can_have call.now made.reply ≡ true) }
+{
+    let reply = api_reply(alloc, machine, shelf, call)?;
+    let entry = ControlEntry {
+        caller,
+        call: copy_of(call)?,
+        reply: copy_of(&reply)?,
+    };
+    let added = payload_of(alloc, &entry)?;
+    Ok(Made {
+        entry,
+        reply,
+        added,
+    })
+}
+
+/// Leaves the machine as after the entry, which comes back. An `Err` leaves it as it was.
+pub fn leave(
+    alloc: Global,
+    machine: &mut Machine,
+    shelf: &Row<OnShelf>,
+    made: Made,
+) -> Result<Made, AllocError>
+    requires { made.entry.reply ≡ reply_to shelf.now machine.old made.entry.call }
+    ensures back { IfOk result (λ back. back ≡ made) }
+    ensures ok { OnOk result (machine.new ≡ after machine.old made.entry.caller made.entry.call made.entry.reply) }
+    ensures err { OnErr result (machine.new ≡ machine.old) }
+{
+    let entry = &made.entry;
+    match api_leave(
+        alloc,
+        machine,
+        entry.caller,
+        shelf,
+        &entry.call,
+        &entry.reply,
+    ) {
+        Ok(()) => Ok(made),
+        Err(error) => Err(error),
+    }
+}

@@ -1,0 +1,4 @@
+pub mod Verdicts
+pub mod Kept
+pub mod Ids
+pub mod WithNumber

@@ -1,0 +1,20 @@
+-- The calls that this crate answers, and what most of them are answered on a machine that is not booted.
+use Rattle.std.specs.Prelude.{◌≡◌, true, if◌then◌else◌}
+use Rattle.chv_defs.specs.declared.machine.Machine.{Machine}
+use Rattle.chv_defs.specs.declared.rule.Rule.{Rule}
+use Rattle.chv_defs.specs.declared.rule.Rule.TheVariants.{NotCreated}
+use Rattle.chv_defs.specs.declared.control.ControlCall.{ControlCall}
+use Rattle.chv_defs.specs.declared.control.ControlCall.TheVariants as call
+use Rattle.chv_defs.specs.declared.control.ControlReply.{ControlReply}
+use Rattle.chv_defs.specs.declared.control.ControlReply.TheVariants as reply
+use Rattle.chv_defs.specs.ApiStep.{is_uncreated}
+use Rattle.chv_defs.specs.Desks.{is_session_call}
+
+-- a call of the API, a session's Bye, or a Stop
+abbrev pub IsApiCall : ControlCall → Type 0
+IsApiCall call.Stop = Unit {0}
+IsApiCall c = is_session_call c ≡ true
+
+-- refused: there is no machine, or else this rule is broken
+abbrev pub refused_by : Machine → Rule → ControlReply
+refused_by m rule = reply.Ruled (if is_uncreated m then NotCreated else rule)

@@ -1,0 +1,2 @@
+pub mod ApiCalls
+pub mod Laws

@@ -1,0 +1,18 @@
+//! The calls of the API on a machine that is not booted: what each is answered, and what it leaves.
+#![tactic(auto)]
+
+mod creation;
+mod devices;
+mod ended;
+mod laws;
+mod life;
+mod queries;
+mod shelf;
+mod step;
+
+pub use laws::{answers_fit, refused_calls_change_nothing, states_stay_well_formed};
+pub use queries::show;
+pub use step::{api_leave, api_reply, api_step};
+
+#[cfg(test)]
+mod tests;

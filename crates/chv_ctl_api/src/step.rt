@@ -1,0 +1,97 @@
+// One step of the API.
+ghost use Rattle.std.specs.Prelude.{◌≡◌, true, IsOk, IfOk, OnOk, OnErr};
+ghost use Rattle.chv_defs.specs.declared.control.ControlCall.TheVariants.{Stop};
+ghost use Rattle.chv_defs.specs.Machine.{IsWellFormed};
+ghost use Rattle.chv_defs.specs.ApiStep.{after, reply_to};
+ghost use Rattle.chv_defs.specs.ControlStep.{MayCall};
+ghost use Rattle.chv_ctl_api.specs.ApiCalls.{IsApiCall};
+
+use crate::creation::{answer_create, create, delete};
+use crate::devices::{add_disk, answer_add_disk, answer_remove, remove_disk};
+use crate::ended::end_session;
+use crate::life::{answer_begin, answer_restore, refuse};
+use crate::queries::answer_info;
+use chv_defs::{ControlCall, ControlReply, Goal, Machine, OnShelf, Row, Rule};
+use std::alloc::{AllocError, Global};
+
+/// The answer to a call of a session or to a Stop, where these disks stand by: the first rule of the call that is broken, or
+/// else the success. A Stop takes no memory.
+pub fn api_reply(
+    alloc: Global,
+    machine: &Machine,
+    shelf: &Row<OnShelf>,
+    call: &ControlCall,
+) -> Result<ControlReply, AllocError>
+    requires formed { IsWellFormed machine.now }
+    requires call { IsApiCall call.now }
+    ensures reply { IfOk result (λ reply. reply ≡ reply_to shelf.now machine.now call.now) }
+    ensures stop { call.now ≡ Stop → IsOk result }
+{
+    match call {
+        ControlCall::Ping | ControlCall::Bye | ControlCall::Stop => Ok(ControlReply::Done),
+        ControlCall::Info => answer_info(alloc, machine, shelf),
+        ControlCall::Create(config) => answer_create(alloc, machine, shelf, config),
+        ControlCall::AddDisk(disk) => answer_add_disk(alloc, machine, shelf, disk),
+        ControlCall::Remove(id) => Ok(answer_remove(machine, shelf, id)),
+        ControlCall::Begin(goal) => Ok(answer_begin(machine, shelf, *goal)),
+        ControlCall::Restore(name) => Ok(answer_restore(machine, shelf, name)),
+        ControlCall::Boot => Ok(refuse(machine, Rule::NotBuilt)),
+        ControlCall::Counters | ControlCall::Resize { .. } | ControlCall::ResizeZone { .. } => {
+            Ok(refuse(machine, Rule::NotBooted))
+        }
+        ControlCall::Resume | ControlCall::Snapshot(_) => Ok(refuse(machine, Rule::NotPaused)),
+        _ => unreachable!(),
+    }
+}
+
+/// Leaves the machine as after a call that is answered so. An `Err` leaves it as it was. A Stop takes no memory.
+pub fn api_leave(
+    alloc: Global,
+    machine: &mut Machine,
+    caller: u32,
+    shelf: &Row<OnShelf>,
+    call: &ControlCall,
+    reply: &ControlReply,
+) -> Result<(), AllocError>
+    requires replied { reply.now ≡ reply_to shelf.now machine.old call.now }
+    ensures ok { OnOk result (machine.new ≡ after machine.old caller call.now reply.now) }
+    ensures err { OnErr result (machine.new ≡ machine.old) }
+    ensures stop { call.now ≡ Stop → IsOk result }
+{
+    match (call, reply) {
+        (ControlCall::Create(config), ControlReply::Done) => create(alloc, machine, shelf, config),
+        (ControlCall::Begin(Goal::Delete), ControlReply::Done) => Ok(delete(machine)),
+        (ControlCall::AddDisk(disk), ControlReply::Done) => add_disk(alloc, machine, shelf, disk),
+        (ControlCall::Remove(id), ControlReply::Done) => Ok(remove_disk(alloc, machine, id)),
+        (ControlCall::Bye, ControlReply::Done) => end_session(&mut machine.ended, caller),
+        (ControlCall::Stop, ControlReply::Done) => Ok(stop(machine)),
+        _ => Ok(()),
+    }
+}
+
+fn stop(machine: &mut Machine)
+    ensures { machine.new ≡ record machine.old { stopped = true } }
+{
+    machine.stopped = true;
+}
+
+/// Answers a call and leaves the machine as after it. An `Err` leaves the machine as it was. A Stop takes no memory.
+pub fn api_step(
+    alloc: Global,
+    machine: &mut Machine,
+    caller: u32,
+    shelf: &Row<OnShelf>,
+    call: &ControlCall,
+) -> Result<ControlReply, AllocError>
+    requires formed { IsWellFormed machine.old }
+    requires may { MayCall machine.old caller call.now }
+    ensures reply { IfOk result (λ reply. reply ≡ reply_to shelf.now machine.old call.now) }
+    ensures state { IfOk result (λ reply. machine.new ≡ after machine.old caller call.now reply) }
+    ensures formed { IsWellFormed machine.new }
+    ensures err { OnErr result (machine.new ≡ machine.old) }
+    ensures stop { call.now ≡ Stop → IsOk result }
+{
+    let reply = api_reply(alloc, machine, shelf, call)?;
+    api_leave(alloc, machine, caller, shelf, call, &reply)?;
+    Ok(reply)
+}
