@@ -54,4 +54,3 @@ none_by caller (e ∷ es) none = one_more (e.caller == caller) e (entries_by cal
 -- no caller of a legal history waits for an answer
 pub is_settled : (shelf : List OnShelf) (old new : Machine) (history : List ControlEntry) → Leads shelf old history new → (caller : ℕ) → is_held (answers_by caller history) ≡ false
 is_settled shelf old new history leads caller = not_held (answers_by caller history) (none_by caller history (none_holds shelf old new history leads))
-

@@ -12,8 +12,6 @@ use Rattle.chv_defs.specs.ApiStep.{after, reply_to}
 use Rattle.chv_defs.specs.ControlBook.{full_at, payload, places}
 use Rattle.chv_defs.specs.LegalControl.{IsLegal}
 use Rattle.chv_store.specs.declared.any_disk.AnyDisk.{AnyDisk}
-use Rattle.chv_store.specs.AnyDisk.{of_either}
-use Rattle.chv_store.specs.MemDisk.{Platter}
 use Rattle.chv_control.specs.declared.inner.Inner.{Inner}
 use Rattle.chv_control.specs.declared.inner.Inner.TheVariants as inner
 
@@ -23,14 +21,6 @@ pub record Controlled (D : Type 0) : Type 0 where
   pub history : List ControlEntry
   pub disks : List (List ℕ × AnyDisk D)
   pub sessions : ℕ
-
--- what is known of a disk that stands by: its name, and how many sectors it has
-abbrev pub on_shelf : {D : Type 0} → (D → ℕ) → (List ℕ × AnyDisk D) → OnShelf
-on_shelf count disk = record { name = disk.0; sectors = of_either count (λ (made : Platter). length made.sectors) disk.1 }
-
--- what is known of the disks that stand by, where this counts the sectors of a disk that was handed in
-abbrev pub shelf_of : {D : Type 0} → (D → ℕ) → List (List ℕ × AnyDisk D) → List OnShelf
-shelf_of count disks = map (on_shelf count) disks
 
 -- a control value with these disks and sessions, to which nothing happened yet
 abbrev pub fresh : {D : Type 0} → List (List ℕ × AnyDisk D) → ℕ → Controlled D

@@ -17,9 +17,7 @@ use crate::made::{leave, make};
 use crate::shelf::shelf_of;
 use crate::start::Start;
 use chv_ctl_api::show;
-use chv_defs::{
-    ControlCall, ControlEntry, ControlReply, Info, Life, Machine, Name, OnShelf, Row,
-};
+use chv_defs::{ControlCall, ControlEntry, ControlReply, Info, Life, Machine, Name, OnShelf, Row};
 use chv_io::Disk;
 use chv_store::AnyDisk;
 use std::alloc::{AllocError, Global};
@@ -42,14 +40,15 @@ pub struct Control<D: Disk> {
 impl<D: Disk> Model for Control<D> {
     ghost use Rattle.std.specs.Prelude.{◌≡◌, ◌+◌, ◌≤◌, if◌then◌else◌, vec_len, vec_capacity};
     ghost use Rattle.chv_defs.specs.ControlBook.{payload};
-    ghost use Rattle.chv_control.specs.Control.{Controlled, IsKept, shelf_of};
+    ghost use Rattle.chv_control.specs.Control.{Controlled, IsKept};
+    ghost use Rattle.chv_control.specs.Shelf.{sectors_of, shelf_of};
 
     ghost Value = { Controlled D };
 
     ghost view = { λ c. record { machine = c.machine; history = c.history.items; disks = c.disks.items; sessions = c.sessions } };
 
     ghost invariant = { λ c.
-        (c.shelf ≡ shelf_of D.sector_count c.disks.items)
+        (c.shelf ≡ shelf_of (sectors_of D.sector_count) c.disks.items)
         × (c.bytes ≡ payload c.history.items)
         × (vec_len c.history + (if c.machine.stopped then 0 else 1) ≤ vec_capacity c.history)
         × IsKept c.shelf c.machine c.history.items };
@@ -67,7 +66,8 @@ fn empty_machine(alloc: Global) -> Machine
 }
 
 impl<D: Disk> Control<D> {
-    ghost use Rattle.chv_control.specs.Control.{answer_to, entered, entry_of, fresh, shelf_of};
+    ghost use Rattle.chv_control.specs.Control.{answer_to, entered, entry_of, fresh};
+    ghost use Rattle.chv_control.specs.Shelf.{sectors_of, shelf_of};
 
     /// A control value to which nothing happened yet. An `Err` hands the argument back: there is no memory.
     pub fn new(alloc: Global, start: Start<D>) -> Result<Control<D>, Start<D>>
@@ -100,7 +100,7 @@ impl<D: Disk> Control<D> {
         call: &ControlCall,
     ) -> Result<Result<ControlReply, Inner>, AllocError>
         requires { MayCall self.old.machine caller call.now }
-        ensures answer { IfOk result (λ answer. answer ≡ answer_to (shelf_of D.sector_count self.old.disks) self.old caller call.now) }
+        ensures answer { IfOk result (λ answer. answer ≡ answer_to (shelf_of (sectors_of D.sector_count) self.old.disks) self.old caller call.now) }
         ensures entered { IfOk result (λ answer. IfOk answer (λ reply. self.new
             ≡ entered self.old (record { caller = caller; call = call.now; reply = reply }))) }
         ensures fits { is_session_call call.now ≡ true → IfOk result (λ answer. IfOk answer (λ reply. can_have call.now reply ≡ true)) }
@@ -138,7 +138,7 @@ impl<D: Disk> Control<D> {
     ) -> Result<Result<ControlReply, Inner>, AllocError>
         requires may { MayCall self.old.machine caller call.now }
         requires other { is_stop call.now ≡ false }
-        ensures answer { IfOk result (λ answer. answer ≡ answer_to (shelf_of D.sector_count self.old.disks) self.old caller call.now) }
+        ensures answer { IfOk result (λ answer. answer ≡ answer_to (shelf_of (sectors_of D.sector_count) self.old.disks) self.old caller call.now) }
         ensures entered { IfOk result (λ answer. IfOk answer (λ reply. self.new
             ≡ entered self.old (record { caller = caller; call = call.now; reply = reply }))) }
         ensures fits { is_session_call call.now ≡ true → IfOk result (λ answer. IfOk answer (λ reply. can_have call.now reply ≡ true)) }
@@ -182,7 +182,7 @@ impl<D: Disk> Control<D> {
     /// the limits of the book.
     pub fn history(&self) -> &[ControlEntry]
         ensures value { result.now ≡ self.now.history }
-        ensures legal { IsLegal (shelf_of D.sector_count self.now.disks) self.now.history self.now.machine }
+        ensures legal { IsLegal (shelf_of (sectors_of D.sector_count) self.now.disks) self.now.history self.now.machine }
         ensures settled { (caller : ℕ) → is_held (answers_by caller self.now.history) ≡ false }
         ensures entries { places self.now.machine self.now.history ≤ most_entries }
         ensures bytes { payload self.now.history ≤ most_payload }
@@ -195,7 +195,7 @@ impl<D: Disk> Control<D> {
         ensures history { result.0 ≡ self.history }
         ensures disks { result.1.disks.items ≡ self.disks }
         ensures sessions { result.1.sessions ≡ self.sessions }
-        ensures legal { IsLegal (shelf_of D.sector_count self.disks) self.history self.machine }
+        ensures legal { IsLegal (shelf_of (sectors_of D.sector_count) self.disks) self.history self.machine }
     {
         (
             Row::new(self.history),

@@ -1,6 +1,6 @@
 // What is known of the disks that stand by.
 ghost use Rattle.std.specs.Prelude.{◌≡◌, IfOk};
-ghost use Rattle.chv_control.specs.Control.{shelf_of};
+ghost use Rattle.chv_control.specs.Shelf.{sectors_of, shelf_of};
 
 use chv_defs::{Name, OnShelf, Row, copy_of};
 use chv_io::Disk;
@@ -12,7 +12,7 @@ pub fn shelf_of<D: Disk>(
     alloc: Global,
     disks: &[(Name, AnyDisk<D>)],
 ) -> Result<Row<OnShelf>, AllocError>
-    ensures { IfOk result (λ shelf. shelf ≡ shelf_of D.sector_count disks.now) }
+    ensures { IfOk result (λ shelf. shelf ≡ shelf_of (sectors_of D.sector_count) disks.now) }
 {
     let mut shelf = Row::empty(alloc);
     for (name, disk) in disks {

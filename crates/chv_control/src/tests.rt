@@ -41,7 +41,10 @@ fn disks(alloc: Global) -> Result<Vec<(Name, AnyDisk<MemDisk>)>, Fail> {
         return Err(Fail::from("no name"));
     };
     let mut disks = Vec::new(alloc);
-    disks.push((name, AnyDisk::Given(MemDisk::new(alloc, 8, Row::empty(alloc))?)))?;
+    disks.push((
+        name,
+        AnyDisk::Given(MemDisk::new(alloc, 8, Row::empty(alloc))?),
+    ))?;
     Ok(disks)
 }
 
