@@ -1,11 +1,11 @@
 -- What is read is a scenario: each of its requests can stand there.
-use Rattle.std.proofs.Common.{◌≡◌, ℕ, ◌+◌, ◌*◌, ◌<◌, ◌==◌, ◌&&◌, not, nat_lt, Bool, true, false, cond, List, [], ◌∷◌, length, codes, Option, None, Some, option_map, Result, Ok, Err, refl, sym, ◌∙◌, ap, subst, arith}
+use Rattle.std.proofs.Common.{◌≡◌, ℕ, ◌+◌, ◌*◌, ◌==◌, ◌&&◌, not, nat_lt, Bool, true, false, cond, List, [], ◌∷◌, length, codes, Option, None, Some, option_map, Result, Ok, Err, refl, sym, ◌∙◌, ap, subst, arith}
 use Rattle.std.specs.Char.{digit_value}
 use Rattle.std.specs.List.{list_all}
 use Rattle.std.specs.Str.{bytes_eq}
 use Rattle.std.proofs.lemmas.Bool.{and_parts, and_from, lt-ltb, cond-false, ne_eqb}
 use Rattle.chv_defs.specs.Numbers.{is_hex_digit, bytes_in, bytes_of}
-use Rattle.chv_defs.specs.ScenarioText.{Line, lines_of, onto_line, at_space, has_space, is_route_name, Part, Asks, Ends, get_line, put_name, put_line, raw_bytes, raw_line, end_line, section_word, section_line, top_line, Fault, Sessions, with_request, with_session, section_part, top_part, read_lines, read_scenario, is_request, IsScenario}
+use Rattle.chv_defs.specs.ScenarioText.{Line, lines_of, onto_line, at_space, has_space, is_route_name, Part, Asks, Ends, get_line, put_name, put_line, raw_line, end_line, section_word, section_line, top_line, Fault, Sessions, with_request, with_session, section_part, top_part, read_lines, read_scenario, is_request, IsScenario}
 use Rattle.chv_defs.specs.declared.scene.Asked.{Asked}
 use Rattle.chv_defs.specs.declared.scene.Asked.TheVariants as asked
 use Rattle.chv_defs.specs.declared.rule.Reason.{Reason}

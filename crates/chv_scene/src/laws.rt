@@ -1,9 +1,9 @@
 // The law of the definitions, as the contract of a function that does nothing.
-ghost use Rattle.std.specs.Prelude.{◌≡◌, ℕ, List, Ok};
-ghost use Rattle.chv_defs.specs.ScenarioText.{Sessions, read_scenario, IsScenario};
+ghost use Rattle.chv_defs.specs.ScenarioText.{ReadsScenarios};
 
-/// A text that is read is a scenario with the sessions that are read: their sections spell it, byte for byte; they are at most
-/// 16; and each of their requests can stand there. So two texts that are read alike are one text.
-pub fn what_is_read_is_a_scenario()
-    ensures { (text : List ℕ) (sessions : Sessions) → read_scenario text ≡ Ok sessions → IsScenario text sessions }
+/// What is read are exactly the scenarios, each as the sessions that it spells: sections one behind another, byte for byte;
+/// at most 16; and each of their requests one that can stand there. So each scenario has one spelling, and no text that has
+/// this form is refused.
+pub fn reads_exactly_the_scenarios()
+    ensures { ReadsScenarios }
 {}

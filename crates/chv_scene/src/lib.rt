@@ -11,5 +11,5 @@ mod section;
 #[cfg(test)]
 mod tests;
 
-pub use laws::what_is_read_is_a_scenario;
+pub use laws::reads_exactly_the_scenarios;
 pub use scenario::{SceneFault, read};
