@@ -1,5 +1,4 @@
 use Rattle.std.proofs.Common.{◌++◌, codes, append_assoc, sym, refl}
-use Rattle.std.proofs.lemmas.List.{append-nil}
 use Rattle.chv_defs.specs.TraceText.{pairs_or_dash}
 use Rattle.chv_trace.proofs.Putting.{adds_two, first_broken, next_broken, last_added, last_broken}
 use Rattle.chv_trace.proofs.sessions.push_bytes.Goals as goal
