@@ -12,13 +12,13 @@ pub returns-in-Ok-Ok-clause-ok : goal.returns-in-Ok-Ok-clause-ok
 returns-in-Ok-Ok-clause-ok g c = record {
   text = c.in-Ok.text.items;
   read = read_whole _ _ c.in-Ok.text.items c.in-Ok.ensures.ok (omega (arith, c.if-len-gt-MOST_INPUT.false, c.len.ensures));
-  scenario = scene_is (read_scenario c.in-Ok.text.items) c.in-Ok-Ok.scene (sym c.in-Ok-Ok.field-0-is ∙ c.in-Ok-Ok.ensures ∙ ap (λ t. answer_of (read_scenario t)) c.as_slice.ensures.value);
-  few = ?;
+  scenario = scene_is (read_scenario c.in-Ok.text.items) c.in-Ok-Ok.scene (sym c.in-Ok-Ok.field-0-is ∙ c.in-Ok-Ok.ensures.answer ∙ ap (λ t. answer_of (read_scenario t)) c.as_slice.ensures.value);
+  few = c.in-Ok-Ok.ensures.few;
 }
 
 pub returns-in-Ok-Err-clause-err : goal.returns-in-Ok-Err-clause-err
 returns-in-Ok-Err-clause-err g c = (
   c.in-Ok.text.items,
   read_whole _ _ c.in-Ok.text.items c.in-Ok.ensures.ok (omega (arith, c.if-len-gt-MOST_INPUT.false, c.len.ensures)),
-  fault_is (read_scenario c.in-Ok.text.items) c.in-Ok-Err.fault (sym c.in-Ok-Err.field-0-is ∙ c.in-Ok-Err.ensures ∙ ap (λ t. answer_of (read_scenario t)) c.as_slice.ensures.value),
+  fault_is (read_scenario c.in-Ok.text.items) c.in-Ok-Err.fault (sym c.in-Ok-Err.field-0-is ∙ c.in-Ok-Err.ensures.answer ∙ ap (λ t. answer_of (read_scenario t)) c.as_slice.ensures.value),
 )
