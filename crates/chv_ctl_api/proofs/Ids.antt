@@ -1,5 +1,5 @@
 -- Ids of devices, asked one device after another.
-use Rattle.std.proofs.Common.{◌≡◌, ℕ, Bool, true, false, List, [], ◌∷◌, ◌++◌, Option, None, Some, refl, sym, ◌∙◌, ap, filter, map}
+use Rattle.std.proofs.Common.{◌≡◌, ℕ, Bool, true, false, List, [], ◌∷◌, Option, None, Some, refl, ◌∙◌, ap, filter, map}
 use Rattle.std.specs.Prelude.{◌&&◌, ◌||◌, nat_lt, cond}
 use Rattle.std.specs.List.{list_any, cons_option}
 use Rattle.std.specs.Str.{bytes_eq}
@@ -14,7 +14,6 @@ is_given id disk = has_text (given_ids (disk ∷ [])) id
 -- whether the memory device of this zone has this id
 abbrev pub is_memory : List ℕ → ZoneConfig → Bool
 is_memory id zone = nat_lt 0 zone.hotplug && bytes_eq id (memory_device_id zone)
-
 
 by_option : (id : List ℕ) (given : Option (List ℕ)) (rest : List (List ℕ)) → has_text (cons_option given []) id || has_text rest id ≡ has_text (cons_option given rest) id
 by_option id None rest = refl

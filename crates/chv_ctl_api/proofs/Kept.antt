@@ -1,11 +1,10 @@
 -- What a call leaves is well formed.
-use Rattle.std.proofs.Common.{◌≡◌, ◌≤◌, ◌<◌, ◌+◌, ◌*◌, ◌^◌, ◌↔◌, ℕ, Bool, true, false, List, [], ◌∷◌, ◌++◌, length, if◌then◌else◌, nat_lt, ◌==◌, None, Some, Option, refl, sym, subst, ◌∙◌, ap, arith}
+use Rattle.std.proofs.Common.{◌≡◌, ◌≤◌, ◌<◌, ◌+◌, ◌*◌, ◌↔◌, ℕ, Bool, true, false, List, [], ◌∷◌, length, if◌then◌else◌, nat_lt, ◌==◌, None, Some, Option, refl, subst, arith}
 use Rattle.std.specs.Prelude.{sum_by, not, is_some, unwrap_or, ◌||◌}
 use Rattle.std.specs.List.{list_any}
 use Rattle.std.proofs.lemmas.Bool.Decides.{nat_tests}
 use Rattle.std.proofs.lemmas.List.Sums.{sum_by-cons}
 use Rattle.chv_defs.specs.declared.machine.Machine.{Machine}
-use Rattle.chv_defs.specs.declared.machine.Life.{Life}
 use Rattle.chv_defs.specs.declared.machine.Life.TheVariants as life
 use Rattle.chv_defs.specs.declared.config.Checked.{Checked}
 use Rattle.chv_defs.specs.declared.config.VmConfig.{VmConfig}
@@ -14,16 +13,16 @@ use Rattle.chv_defs.specs.declared.config.ZoneConfig.{ZoneConfig}
 use Rattle.chv_defs.specs.declared.scene.OnShelf.{OnShelf}
 use Rattle.chv_defs.specs.declared.rule.Rule.{Rule}
 use Rattle.chv_defs.specs.declared.rule.Rule.TheVariants.{AlreadyCreated}
-use Rattle.chv_defs.specs.declared.control.Goal.TheVariants.{Pause, Shutdown, Delete}
+use Rattle.chv_defs.specs.declared.control.Goal.TheVariants.{Delete}
 use Rattle.chv_defs.specs.declared.control.ControlCall.{ControlCall}
 use Rattle.chv_defs.specs.declared.control.ControlCall.TheVariants as call
 use Rattle.chv_defs.specs.declared.control.ControlReply.{ControlReply}
 use Rattle.chv_defs.specs.declared.control.ControlReply.TheVariants as reply
-use Rattle.chv_defs.specs.Machine.{IsSession, AreSessionsAbove, HasSmallZones, IsWellFormed}
+use Rattle.chv_defs.specs.Machine.{AreSessionsAbove, HasSmallZones, IsWellFormed}
 use Rattle.chv_defs.specs.ApiStep.{after, is_uncreated, names_of, refusal_of, reply_to, rules_of, with_number}
 use Rattle.chv_defs.specs.ControlStep.{MayCall}
-use Rattle.chv_defs.specs.ConfigRules.{checked_of, config_rules, has_zones, own_zone, too_many_zones, zone_too_large, zones_in_effect, verdict}
-use Rattle.chv_ctl_api.proofs.Verdicts.{NoneBroken, none-from_done, none-broken}
+use Rattle.chv_defs.specs.ConfigRules.{checked_of, config_rules, has_zones, own_zone, zones_in_effect, verdict}
+use Rattle.chv_ctl_api.proofs.Verdicts.{none-from_done, none-broken}
 
 choose : (P : List ℕ → Type 0) (b c : Bool) (x y z : List ℕ) → (b ≡ true → P x) → (b ≡ false → c ≡ true → P y) → (b ≡ false → c ≡ false → P z) → P (if b then x else (if c then y else z))
 choose P true c x y z p q r = p refl
@@ -38,7 +37,6 @@ AreSessionsAbove-with_number low n (m ∷ ms) all above below =
     (λ e. (above, below, (grind (arith, nat_tests), all.1, all.2)))
     (λ e f. all)
     (λ e f. (all.0, all.1, AreSessionsAbove-with_number m n ms all.2 (grind (arith, nat_tests)) below))
-
 
 or_parts : (b c : Bool) → b || c ≡ false → (b ≡ false) × (c ≡ false)
 or_parts true c e = cc

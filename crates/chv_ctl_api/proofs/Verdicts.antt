@@ -1,18 +1,17 @@
 -- What an answer of the rules says of them.
-use Rattle.std.proofs.Common.{◌≡◌, ℕ, Bool, true, false, List, [], ◌∷◌, ◌++◌, Option, None, Some, Result, Ok, Err, if◌then◌else◌, refl, sym, subst, ◌∙◌, ap}
-use Rattle.std.specs.Prelude.{not, is_some, unwrap_or, OnOk}
+use Rattle.std.proofs.Common.{◌≡◌, Bool, true, false, List, [], ◌∷◌, ◌++◌, Option, None, Some, Result, Ok, Err, if◌then◌else◌, refl, sym, subst, ap}
+use Rattle.std.specs.Prelude.{is_some, OnOk}
 use Rattle.chv_defs.specs.declared.machine.Machine.{Machine}
 use Rattle.chv_defs.specs.declared.config.Checked.{Checked}
 use Rattle.chv_defs.specs.declared.config.VmConfig.{VmConfig}
 use Rattle.chv_defs.specs.declared.config.DiskConfig.{DiskConfig}
 use Rattle.chv_defs.specs.declared.scene.OnShelf.{OnShelf}
 use Rattle.chv_defs.specs.declared.rule.Rule.{Rule}
-use Rattle.chv_defs.specs.declared.rule.Rule.TheVariants.{NotCreated, SlotsFull}
+use Rattle.chv_defs.specs.declared.rule.Rule.TheVariants.{SlotsFull}
 use Rattle.chv_defs.specs.declared.control.ControlCall.TheVariants as call
-use Rattle.chv_defs.specs.declared.control.ControlReply.{ControlReply}
 use Rattle.chv_defs.specs.declared.control.ControlReply.TheVariants as reply
-use Rattle.chv_defs.specs.ConfigRules.{check_answer, check_disk_answer, first_broken, further_disk_rules, unless_refused, verdict}
-use Rattle.chv_defs.specs.ApiStep.{has_full_slots, names_of, now_of, refusal_of, refused_or, reply_to}
+use Rattle.chv_defs.specs.ConfigRules.{first_broken, further_disk_rules, unless_refused, verdict}
+use Rattle.chv_defs.specs.ApiStep.{has_full_slots, names_of, refusal_of, refused_or, reply_to}
 
 -- where the success is answered, no rule is broken
 pub none-from_done : (found : Option Rule) → reply.Done ≡ refused_or found reply.Done → found ≡ None

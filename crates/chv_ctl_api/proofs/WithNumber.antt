@@ -1,8 +1,6 @@
 -- Where a number goes among ascending ones.
-use Rattle.std.proofs.Common.{◌≡◌, ℕ, ◌+◌, ◌<◌, ◌≤◌, List, [], ◌∷◌, ◌++◌, length, take, drop, get_or, insert, arith, sym, ◌∙◌, ap, append_assoc, add-one, refl}
+use Rattle.std.proofs.Common.{◌≡◌, ℕ, ◌<◌, List, ◌∷◌, arith}
 use Rattle.std.proofs.lemmas.Grind.{common_steps}
-use Rattle.std.proofs.Math.Seq.{drop-cons, take-suc}
-use Rattle.std.proofs.lemmas.List.{take-append-drop}
 use Rattle.chv_defs.specs.ApiStep.{with_number}
 
 -- a lower number is passed

@@ -70,7 +70,9 @@ pub fn answer_remove(machine: &Machine, shelf: &Row<OnShelf>, id: &Text) -> Cont
 fn has_memory_device(zones: &[ZoneConfig], id: &Text) -> bool
     ensures { result ≡ has_text (memory_device_ids zones.now) id.now }
 {
-    zones.iter().any(|zone| zone.hotplug > 0 && is_memory_device(zone, id))
+    zones
+        .iter()
+        .any(|zone| zone.hotplug > 0 && is_memory_device(zone, id))
 }
 
 fn is_memory_device(zone: &ZoneConfig, id: &Text) -> bool

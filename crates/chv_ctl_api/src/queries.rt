@@ -39,11 +39,7 @@ pub fn show(alloc: Global, machine: &Machine) -> Result<Info, AllocError>
     }
 }
 
-fn show_before_boot(
-    alloc: Global,
-    state: ShownState,
-    checked: &Checked,
-) -> Result<Info, AllocError>
+fn show_before_boot(alloc: Global, state: ShownState, checked: &Checked) -> Result<Info, AllocError>
     requires { sum_by (λ (zone : ZoneConfig). zone.size) checked.now.zones < 2 ^ 64 }
     ensures { IfOk result (λ info. info ≡ shown_before_boot state checked.now) }
 {

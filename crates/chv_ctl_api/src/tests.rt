@@ -5,8 +5,8 @@ ghost use Rattle.chv_defs.specs.Desks.{is_session_call};
 
 use super::*;
 use chv_defs::{
-    ControlCall, ControlReply, CpuConfig, DiskConfig, Goal, Hotplug, Life, Machine, MemConfig, Name,
-    OnShelf, Row, Rule, Text, VmConfig,
+    ControlCall, ControlReply, CpuConfig, DiskConfig, Goal, Hotplug, Life, Machine, MemConfig,
+    Name, OnShelf, Row, Rule, Text, VmConfig,
 };
 use std::alloc::{AllocError, Global};
 use std::test::Fail;
@@ -96,7 +96,15 @@ fn calls_before_a_machine_is_created(rt: HostRuntime) -> Result<(), Fail> {
     let shelf = shelf(alloc)?;
     let mut machine = empty(alloc);
     let unknown = ControlReply::Ruled(Rule::NotCreated);
-    assert!(rt; answers(alloc, &mut machine, &shelf, ControlCall::Ping, ControlReply::Done)?);
+    assert!(rt;
+        answers(
+            alloc,
+            &mut machine,
+            &shelf,
+            ControlCall::Ping,
+            ControlReply::Done
+        )?
+    );
     assert!(rt; answers(alloc, &mut machine, &shelf, ControlCall::Info, unknown)?);
     let create = ControlCall::Create(config(alloc)?);
     assert!(rt; answers(alloc, &mut machine, &shelf, create, ControlReply::Done)?);
@@ -115,8 +123,24 @@ fn a_machine_that_is_not_booted(rt: HostRuntime) -> Result<(), Fail> {
     let alloc = rt.alloc();
     let shelf = shelf(alloc)?;
     let mut machine = created(alloc, &shelf)?;
-    assert!(rt; answers(alloc, &mut machine, &shelf, ControlCall::Boot, ruled(Rule::NotBuilt))?);
-    assert!(rt; answers(alloc, &mut machine, &shelf, ControlCall::Resume, ruled(Rule::NotPaused))?);
+    assert!(rt;
+        answers(
+            alloc,
+            &mut machine,
+            &shelf,
+            ControlCall::Boot,
+            ruled(Rule::NotBuilt)
+        )?
+    );
+    assert!(rt;
+        answers(
+            alloc,
+            &mut machine,
+            &shelf,
+            ControlCall::Resume,
+            ruled(Rule::NotPaused)
+        )?
+    );
     let pause = ControlCall::Begin(Goal::Pause);
     assert!(rt; answers(alloc, &mut machine, &shelf, pause, ruled(Rule::NotRunning))?);
     let shut = ControlCall::Begin(Goal::Shutdown);
@@ -184,8 +208,24 @@ fn devices_that_are_not_removed(rt: HostRuntime) -> Result<(), Fail> {
     let shelf = shelf(alloc)?;
     let mut machine = created(alloc, &shelf)?;
     let memory = ControlCall::Remove(Text::of(alloc, "_mem_mem0")?);
-    assert!(rt; answers(alloc, &mut machine, &shelf, memory, ruled(Rule::DeviceFixed))?);
+    assert!(rt;
+        answers(
+            alloc,
+            &mut machine,
+            &shelf,
+            memory,
+            ruled(Rule::DeviceFixed)
+        )?
+    );
     let other = ControlCall::Remove(Text::of(alloc, "_disk1")?);
-    assert!(rt; answers(alloc, &mut machine, &shelf, other, ruled(Rule::DeviceUnknown))?);
+    assert!(rt;
+        answers(
+            alloc,
+            &mut machine,
+            &shelf,
+            other,
+            ruled(Rule::DeviceUnknown)
+        )?
+    );
     Ok(())
 }
