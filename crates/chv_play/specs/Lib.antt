@@ -1,1 +1,8 @@
+pub mod Ahead
+pub mod Stream
+pub mod Desk
+pub mod Playing
+pub mod Outlook
+pub mod Turns
+pub mod Round
 pub mod Played

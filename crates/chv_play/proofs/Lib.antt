@@ -1,0 +1,12 @@
+pub mod FilledLemmas
+pub mod VisitLemmas
+pub mod RoundLemmas
+pub mod TurnLemmas
+pub mod PartLemmas
+pub mod SeatLemmas
+pub mod OutlookLemmas
+pub mod NextLemmas
+pub mod CallLemmas
+pub mod LeadLemmas
+pub mod RoundLoopLemmas
+pub mod PlayedLemmas

@@ -1,0 +1,13 @@
+use Rattle.std.proofs.Common.{◌≡◌, ◌∙◌, sym, refl, Bool, false, Option, None, Some, is_some}
+use Rattle.chv_play.proofs.PlayedLemmas.{fewer_rounds}
+use Rattle.chv_play.proofs.round.rounds.Goals as goal
+
+none_is : {A : Type 0} (o : Option A) → is_some o ≡ false → o ≡ None
+none_is None e = refl
+none_is (Some a) e = absurd (cc e)
+
+pub loop-control-smaller : goal.loop-control-smaller
+loop-control-smaller g c =
+    fewer_rounds c.loop-control.seats c.round.new.seats
+    (c.in_ok-full.ensures.visits (none_is _ (sym c.is_some.ensures ∙ c.if-is_some.false)))
+    (c.loop-control-test.ensures.going refl)

@@ -1,0 +1,66 @@
+-- Where a run of sessions stands: the turns that are left, and what has come of those that were taken.
+use Rattle.std.specs.Prelude.{◌≡◌, ℕ, zero, suc, ◌+◌, List, [], ◌∷◌, ◌++◌, length, drop, map, slice_get, Result}
+use Rattle.std.specs.List.{cons_option}
+use Rattle.chv_defs.specs.declared.bank.Full.{Full}
+use Rattle.chv_defs.specs.declared.machine.Machine.{Machine}
+use Rattle.chv_defs.specs.declared.scene.OnShelf.{OnShelf}
+use Rattle.chv_defs.specs.declared.control.ControlEntry.{ControlEntry}
+use Rattle.chv_defs.specs.Schedule.{Turn, Visit, Stage, turn_of, numbered, all_turns, after_turns, replies_to, visit_of, end_of}
+use Rattle.chv_play.specs.declared.seat.Seat.{Seat}
+use Rattle.chv_play.specs.Ahead.{Ahead, ahead_of}
+
+-- what a seat has ahead of it, as a visit
+abbrev pub ahead_at : Seat → Ahead
+ahead_at seat = ahead_of seat.session seat.link.left
+
+abbrev pub visit_ahead : Seat → Visit
+visit_ahead seat = record { turns = (ahead_at seat).turns; taken = (ahead_at seat).taken }
+
+-- a visit without its first turn
+abbrev pub later : Visit → Visit
+later visit = record visit { turns = drop 1 visit.turns }
+
+-- ---- in a round
+
+-- The turns of this round that are left, where so many of the seats have had theirs; the first seat has this number.
+abbrev pub round_left : ℕ → ℕ → List Seat → List (ℕ × Turn)
+round_left k served [] = []
+round_left k zero (seat ∷ seats) = cons_option (turn_of k (slice_get (ahead_at seat).turns 0)) (round_left (k + 1) zero seats)
+round_left k (suc served) (seat ∷ seats) = round_left (k + 1) served seats
+
+-- what is ahead of the seats behind this round
+abbrev pub behind_round : ℕ → List Seat → List Visit
+behind_round served [] = []
+behind_round zero (seat ∷ seats) = later (visit_ahead seat) ∷ behind_round zero seats
+behind_round (suc served) (seat ∷ seats) = visit_ahead seat ∷ behind_round served seats
+
+-- all turns that are left
+abbrev pub turns_left : ℕ → List Seat → List (ℕ × Turn)
+turns_left served seats = round_left 1 served seats ++ all_turns (numbered (behind_round served seats))
+
+-- ---- what came of the turns
+
+-- the replies to each seat's session are those that it put; the first seat has this number
+abbrev pub ArePut : ℕ → List (ℕ × List ℕ) → List Seat → Type 0
+ArePut k replies [] = Unit {0}
+ArePut k replies (seat ∷ seats) = (replies_to k replies ≡ seat.session.replied) × ArePut (k + 1) replies seats
+
+-- The turns that are left lead from this control state and history where all turns lead.
+pub record IsUnderWay (shelf : List OnShelf) (whole : Result Stage Full) (machine : Machine) (history : List ControlEntry) (served : ℕ) (seats : List Seat) : Type 0 where
+  pub replies : List (ℕ × List ℕ)
+  pub put : ArePut 1 replies seats
+  pub leads : after_turns shelf (record { machine = machine; history = history; replies = replies }) (turns_left served seats) ≡ whole
+
+-- ---- each session at its stream
+
+-- What a session took and what is left are its stream, and it takes in all and ends as the schedule says.
+pub record Attends (stream : List ℕ) (seat : Seat) : Type 0 where
+  pub split : stream ≡ seat.session.asked ++ seat.link.left
+  pub taken : (ahead_at seat).taken ≡ (visit_of stream).taken
+  pub how : (ahead_at seat).how ≡ end_of (visit_of stream).turns
+
+abbrev pub AllAttend : List (List ℕ) → List Seat → Type 0
+AllAttend [] [] = Unit {0}
+AllAttend [] (seat ∷ seats) = ⊥
+AllAttend (stream ∷ streams) [] = ⊥
+AllAttend (stream ∷ streams) (seat ∷ seats) = Attends stream seat × AllAttend streams seats
