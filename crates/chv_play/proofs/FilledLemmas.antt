@@ -80,22 +80,22 @@ pub filled_is : (most n : ℕ) (left after : List ℕ) (count count_after : ℕ)
     → filled n (stand left count rest) ≡ stand after count_after rest_after
 filled_is most n left after count count_after rest rest_after [] many enough is count_is rest_is taken given stops =
     let same : stand after count_after rest_after ≡ stand left count rest =
-        same_stand after left count_after count rest_after rest (sym is) (count_is ∙ add-zero count) (rest_is ∙ append-nil rest) in
+    same_stand after left count_after count rest_after rest (sym is) (count_is ∙ add-zero count) (rest_is ∙ append-nil rest) in
     filled_stops n (stand left count rest) (subst (λ s. takes_more s ≡ false) same stops) ∙ sym same
 filled_is most zero left after count count_after rest rest_after (piece ∷ pieces) many enough is count_is rest_is taken given stops =
     absurd (omega (arith, enough, taken.1, given.0))
 filled_is most (suc n) left after count count_after rest rest_after (piece ∷ pieces) many enough is count_is rest_is taken given stops =
     let split : left ≡ piece ++ (concat pieces ++ after) = is ∙ append_assoc piece (concat pieces) after in
     let piece_is : next_piece (stand left count rest) ≡ piece =
-        next_is most count left piece (concat pieces ++ after) rest many split given.0 in
+    next_is most count left piece (concat pieces ++ after) rest many split given.0 in
     let behind_is : drop (asks_for count) left ≡ concat pieces ++ after =
-        left_is most count left piece (concat pieces ++ after) many split given.0 in
+    left_is most count left piece (concat pieces ++ after) many split given.0 in
     let behind_too : drop (length piece) left ≡ concat pieces ++ after =
-        ap (drop (length piece)) split ∙ drop-append_seam piece (concat pieces ++ after) in
+    ap (drop (length piece)) split ∙ drop-append_seam piece (concat pieces ++ after) in
     let more : takes_more (stand left count rest) ≡ true =
-        goes_on (stand left count rest) taken.0 (subst (λ (p : List ℕ). 0 < length p) (sym piece_is) taken.1) in
+    goes_on (stand left count rest) taken.0 (subst (λ (p : List ℕ). 0 < length p) (sym piece_is) taken.1) in
     let next : with_piece (stand left count rest) ≡ stand (drop (length piece) left) (count + length piece) (rest ++ piece) =
-        same_stand _ _ _ _ _ _ (behind_is ∙ sym behind_too) (ap (λ (p : List ℕ). count + length p) piece_is) (ap (λ (p : List ℕ). rest ++ p) piece_is) in
+    same_stand _ _ _ _ _ _ (behind_is ∙ sym behind_too) (ap (λ (p : List ℕ). count + length p) piece_is) (ap (λ (p : List ℕ). rest ++ p) piece_is) in
     let size : length (drop (length piece) left) ≡ length left - length piece = length-drop (length piece) left in
     let fewer : length (drop (length piece) left) ≤ n = omega (arith, size, taken.1, enough) in
     filled_goes n (stand left count rest) more ∙ ap (filled n) next
@@ -103,4 +103,3 @@ filled_is most (suc n) left after count count_after rest rest_after (piece ∷ p
     fewer behind_too
     (count_is ∙ ap (λ k. count + k) (length-append piece (concat pieces)) ∙ sym (add_assoc count (length piece) (length (concat pieces))))
     (rest_is ∙ sym (append_assoc rest piece (concat pieces))) taken.3 given.1 stops
-

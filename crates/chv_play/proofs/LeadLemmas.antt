@@ -54,14 +54,14 @@ made_ahead {D} shelf caller c old new answer r is ok enters = go (full_at old.ma
     go : (f : Option Full) → full_at old.machine old.history (entry_of shelf old.machine caller c) ≡ f → IsMade shelf caller c old new (Some r) None
     go None none =
         let same : ◌≡◌ {A = Result ControlReply Inner} (Ok r) (Ok (reply_to shelf old.machine c)) =
-            sym ok ∙ is ∙ ap (λ (f : Option Full). unless_full f (reply_to shelf old.machine c)) none in
+        sym ok ∙ is ∙ ap (λ (f : Option Full). unless_full f (reply_to shelf old.machine c)) none in
         let r_is : r ≡ reply_to shelf old.machine c = ok_is r (reply_to shelf old.machine c) same in
         let entry : new ≡ entered old (record { caller = caller; call = c; reply = r }) =
-            subst (λ (a : Result ControlReply Inner). IfOk a (λ reply. new ≡ entered old (record { caller = caller; call = c; reply = reply }))) ok enters in
+        subst (λ (a : Result ControlReply Inner). IfOk a (λ reply. new ≡ entered old (record { caller = caller; call = c; reply = reply }))) ok enters in
         (none, ap Some r_is, entry ∙ ap (λ (x : ControlReply). entered old (record { caller = caller; call = c; reply = x })) r_is)
     go (Some full) some =
         let same : ◌≡◌ {A = Result ControlReply Inner} (Ok r) (Err (inner.Full full)) =
-            sym ok ∙ is ∙ ap (λ (f : Option Full). unless_full f (reply_to shelf old.machine c)) some in
+        sym ok ∙ is ∙ ap (λ (f : Option Full). unless_full f (reply_to shelf old.machine c)) some in
         absurd (cc same)
 
 pub found_full : {D : Type 0} (shelf : List OnShelf) (caller : ℕ) (c : ControlCall) (old new : Controlled D) (answer : Result ControlReply Inner)
@@ -72,11 +72,11 @@ found_full {D} shelf caller c old new answer full r is err same = go (full_at ol
     go : (f : Option Full) → full_at old.machine old.history (entry_of shelf old.machine caller c) ≡ f → IsMade shelf caller c old new (Some r) (Some full)
     go None none =
         let wrong : ◌≡◌ {A = Result ControlReply Inner} (Err (inner.Full full)) (Ok (reply_to shelf old.machine c)) =
-            sym err ∙ is ∙ ap (λ (f : Option Full). unless_full f (reply_to shelf old.machine c)) none in
+        sym err ∙ is ∙ ap (λ (f : Option Full). unless_full f (reply_to shelf old.machine c)) none in
         absurd (cc wrong)
     go (Some other) some =
         let e : ◌≡◌ {A = Result ControlReply Inner} (Err (inner.Full full)) (Err (inner.Full other)) =
-            sym err ∙ is ∙ ap (λ (f : Option Full). unless_full f (reply_to shelf old.machine c)) some in
+        sym err ∙ is ∙ ap (λ (f : Option Full). unless_full f (reply_to shelf old.machine c)) some in
         let full_is : full ≡ other = cc in
         (some ∙ ap Some (sym full_is), same, (r, refl))
 
@@ -144,7 +144,7 @@ leads {D} shelf caller (Answers (Ok c) last) old new laid called bytes lies does
     let s = stage_at old replies in
     let is = makes_is c r laid called does.0 lies.1 does.1 in
     let bytes_are : reply_to_call c r last ≡ bytes =
-        sym (does.2 ∙ ap (λ (x : ControlCall). reply_to_call x does.0.reply last) is.0 ∙ ap (λ (x : ControlReply). reply_to_call c x last) is.1) in
+    sym (does.2 ∙ ap (λ (x : ControlCall). reply_to_call x does.0.reply last) is.0 ∙ ap (λ (x : ControlReply). reply_to_call c x last) is.1) in
     ap (λ (f : Option Full). schedule.unless_full f (with_reply caller (reply_to_call c r last) (with_entry shelf caller c s))) lies.0
     ∙ ap (λ (b : List ℕ). Ok (with_reply caller b (with_entry shelf caller c s))) bytes_are
     ∙ ap (λ (x : Controlled D). Ok (stage_at x (replies ++ (caller, bytes) ∷ []))) (sym lies.2)
@@ -262,5 +262,5 @@ pub step_gives : (old new : Talk) (left left_after : List ℕ) (laid laid_after 
     → ((given_to : Option ControlCall) × Turned old new left left_after (given laid given_to)) × (ended ≡ is_over new.state)
 step_gives old new left left_after laid laid_after asked called ended said says unasked took =
     let is : took.0 ≡ given laid called =
-        given_is laid laid_after called took.0 (took.1 ∙ ap (λ (a : Option ControlCall). answers_at laid a ++ took.0) unasked) in
+    given_is laid laid_after called took.0 (took.1 ∙ ap (λ (a : Option ControlCall). answers_at laid a ++ took.0) unasked) in
     ((called, subst (λ (m : List Answer). Turned old new left left_after m) is took.2), says ∙ took.3)

@@ -80,12 +80,11 @@ pub foreseen_request : (old new : Talk) (left left_after more : List ℕ) (reque
 foreseen_request old new left left_after more request opened gives grows within begins stands =
     subst (λ (s : State). IsForeseen s (call_in (Answers (call_of_request request) request.last)) old new left left_after) (sym opened)
     (λ seen bytes sees.
-        let is = seen_is (unanswered_bytes old left) (old.rest ++ more) (take (session_limit - length new.asked) left_after)
-            (took.Request request) seen new.rest bytes (behind_is old new left left_after more gives grows within) (λ e. absurd (cc e)) begins sees in
-        (
-          call_is (call_of_request request) request.last ∙ ap call_ahead (sym is.0),
-          subst (λ (w : Took). IsOutlook new.state (is_last w) bytes new left_after) (sym is.0) (by_last request.last new left_after bytes stands is.1),
-        ))
+    let is = seen_is (unanswered_bytes old left) (old.rest ++ more) (take (session_limit - length new.asked) left_after)
+    (took.Request request) seen new.rest bytes (behind_is old new left left_after more gives grows within) (λ e. absurd (cc e)) begins sees in (
+      call_is (call_of_request request) request.last ∙ ap call_ahead (sym is.0),
+      subst (λ (w : Took). IsOutlook new.state (is_last w) bytes new left_after) (sym is.0) (by_last request.last new left_after bytes stands is.1),
+    ))
 
 -- ---- bytes that a rule refuses
 
@@ -96,12 +95,11 @@ pub foreseen_bad : (old new : Talk) (left left_after more : List ℕ) (rule : Ru
 foreseen_bad old new left left_after more rule opened gives grows within bad stands =
     subst (λ (s : State). IsForeseen s None old new left left_after) (sym opened)
     (λ seen bytes sees.
-        let is = seen_is (unanswered_bytes old left) (old.rest ++ more) (take (session_limit - length new.asked) left_after)
-            (took.Bad rule) seen (old.rest ++ more) bytes (behind_is old new left left_after more gives grows within) (λ e. absurd (cc e)) bad sees in
-        (
-          ap call_ahead (sym is.0),
-          subst (λ (s : State). IsOutlook s (is_last seen) bytes new left_after) (sym stands) (ap is_last is.0),
-        ))
+    let is = seen_is (unanswered_bytes old left) (old.rest ++ more) (take (session_limit - length new.asked) left_after)
+    (took.Bad rule) seen (old.rest ++ more) bytes (behind_is old new left left_after more gives grows within) (λ e. absurd (cc e)) bad sees in (
+      ap call_ahead (sym is.0),
+      subst (λ (s : State). IsOutlook s (is_last seen) bytes new left_after) (sym stands) (ap is_last is.0),
+    ))
 
 -- ---- an end
 
@@ -112,13 +110,12 @@ pub foreseen_end : (old new : Talk) (left left_after more : List ℕ) (how : Ses
 foreseen_end old new left left_after more how opened gives grows within short none stands =
     subst (λ (s : State). IsForeseen s (Some call.Bye) old new left left_after) (sym opened)
     (λ seen bytes sees.
-        let all : unanswered_bytes old left ≡ old.rest ++ more =
-            behind_is old new left left_after more gives grows within ∙ ap (λ (l : List ℕ). (old.rest ++ more) ++ l) none ∙ append-nil (old.rest ++ more) in
-        let is = cuts_is_one (unanswered_bytes old left) seen took.NotYet bytes (unanswered_bytes old left) sees (subst IsShort (sym all) short, refl) in
-        (
-          ap call_ahead (sym is.0),
-          subst (λ (s : State). IsOutlook s (is_last seen) bytes new left_after) (sym stands) tt,
-        ))
+    let all : unanswered_bytes old left ≡ old.rest ++ more =
+    behind_is old new left left_after more gives grows within ∙ ap (λ (l : List ℕ). (old.rest ++ more) ++ l) none ∙ append-nil (old.rest ++ more) in
+    let is = cuts_is_one (unanswered_bytes old left) seen took.NotYet bytes (unanswered_bytes old left) sees (subst IsShort (sym all) short, refl) in (
+      ap call_ahead (sym is.0),
+      subst (λ (s : State). IsOutlook s (is_last seen) bytes new left_after) (sym stands) tt,
+    ))
 
 pub foreseen_leaving : (old new : Talk) (left left_after : List ℕ) (how : SessionEnd) → old.state ≡ state.Leaving how
     → new.state ≡ state.Ended how → IsForeseen old.state (call_in (Leaves how)) old new left left_after

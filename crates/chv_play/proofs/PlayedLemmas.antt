@@ -138,11 +138,11 @@ log_is : (k : ℕ) (stage : Stage) (stream : List ℕ) (seat : Seat) → Attends
     → is_over seat.session.state ≡ true → log_of stage (k, (stream, visit_of stream)) ≡ log_at k seat
 log_is k stage stream seat attends put over =
     let count : (visit_of stream).taken ≡ length seat.session.asked =
-        sym attends.taken ∙ over_taken seat.session.state seat.session seat.link.left over in
+    sym attends.taken ∙ over_taken seat.session.state seat.session seat.link.left over in
     let asked : take (visit_of stream).taken stream ≡ seat.session.asked =
-        ap (λ n. take n stream) count ∙ ap (take (length seat.session.asked)) attends.split ∙ take-append_seam seat.session.asked seat.link.left in
+    ap (λ n. take n stream) count ∙ ap (take (length seat.session.asked)) attends.split ∙ take-append_seam seat.session.asked seat.link.left in
     let how : schedule.end_of (visit_of stream).turns ≡ end_of seat.session.state =
-        sym attends.how ∙ over_how seat.session.state seat.session seat.link.left over in
+    sym attends.how ∙ over_how seat.session.state seat.session seat.link.left over in
     ap (λ (b : List ℕ). record { session = k; log = record { asked = b; replied = replies_to k stage.replies; end = schedule.end_of (visit_of stream).turns } }) asked
     ∙ ap (λ (b : List ℕ). record { session = k; log = record { asked = seat.session.asked; replied = b; end = schedule.end_of (visit_of stream).turns } }) put
     ∙ ap (λ (h : SessionEnd). record { session = k; log = record { asked = seat.session.asked; replied = seat.session.replied; end = h } }) how
@@ -165,7 +165,7 @@ run_gives {D} shelf sessions control seats over stands =
     let streams = map stream_of sessions in
     let stage = stage_at control stands.under_way.replies in
     let ends : Ok stage ≡ whole shelf streams =
-        sym (ap (after_turns shelf stage) (no_turns_left seats over)) ∙ stands.under_way.leads in
+    sym (ap (after_turns shelf stage) (no_turns_left seats over)) ∙ stands.under_way.leads in
     sym (ap (trace_of streams) ends)
     ∙ ap (λ (ls : List SessionTrace). Ok (trace_with control.history ls)) (logs_are 1 stage streams seats stands.attend stands.under_way.put over)
 
@@ -194,7 +194,7 @@ pub one_more_seat : (sessions : List (List Asked)) (i : ℕ) (requests : List As
     → AreNewSeats (map stream_of (take i sessions)) seats → AreNewSeats (map stream_of (take (i + 1) sessions)) seats_after
 one_more_seat sessions i requests seats seats_after seat within is grows new are =
     let first : take (i + 1) sessions ≡ take i sessions ++ requests ∷ [] =
-        take_more sessions i requests within ∙ ap (λ (r : List Asked). take i sessions ++ r ∷ []) (sym is) in
+    take_more sessions i requests within ∙ ap (λ (r : List Asked). take i sessions ++ r ∷ []) (sym is) in
     subst (λ (ss : List Seat). AreNewSeats (map stream_of (take (i + 1) sessions)) ss) (sym grows)
     (subst (λ (rs : List (List Asked)). AreNewSeats (map stream_of rs) (seats ++ seat ∷ [])) (sym first)
     (subst (λ (bs : List (List ℕ)). AreNewSeats bs (seats ++ seat ∷ [])) (sym (map-append stream_of (take i sessions) (requests ∷ [])))
@@ -247,7 +247,7 @@ pub fewer_rounds : (before after : List Seat) → map visit_ahead after ≡ behi
     → rounds_of (numbered (map visit_ahead after)) < rounds_of (numbered (map visit_ahead before))
 fewer_rounds before after is some =
     let less : rounds_of (numbered (map visit_ahead after)) ≡ rounds_of (numbered (map visit_ahead before)) - 1 =
-        ap (λ (vs : List Visit). rounds_of (numbered vs)) is ∙ ap rounds_of (behind_begins 1 before) ∙ rounds_later (numbered (map visit_ahead before)) in
+    ap (λ (vs : List Visit). rounds_of (numbered vs)) is ∙ ap rounds_of (behind_begins 1 before) ∙ rounds_later (numbered (map visit_ahead before)) in
     omega (arith, less, some)
 
 -- ---- a whole run

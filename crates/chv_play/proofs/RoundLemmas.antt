@@ -5,7 +5,6 @@ use Rattle.std.proofs.lemmas.List.{length-drop}
 use Rattle.chv_defs.specs.Schedule.{Turn, Visit, turn_of, turn_in, round_of, rounds_of, all_turns}
 use Rattle.chv_play.specs.Playing.{later}
 
-
 abbrev pub each_later : ℕ × Visit → ℕ × Visit
 each_later visit = (visit.0, later visit.1)
 

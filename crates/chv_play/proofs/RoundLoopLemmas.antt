@@ -29,10 +29,9 @@ put_step : (k i n : ℕ) (seats : List Seat) (seat after : Seat) (replies replie
     → ArePut k replies seats → ArePut k replies_after (set seats i after)
 put_step k i n [] seat after replies replies_after number within is same own put = absurd (omega (arith, within))
 put_step k zero n (one ∷ seats) seat after replies replies_after number within is same own put =
-    let k_is : n ≡ k = omega (arith, number) in
-    (
+    let k_is : n ≡ k = omega (arith, number) in (
       subst (λ (j : ℕ). replies_to j replies_after ≡ after.session.replied) k_is
-      (own (ap (λ (j : ℕ). replies_to j replies) k_is ∙ put.0 ∙ ap (λ (s : Seat). s.session.replied) is)),
+          (own (ap (λ (j : ℕ). replies_to j replies) k_is ∙ put.0 ∙ ap (λ (s : Seat). s.session.replied) is)),
       put_others (k + 1) n seats replies replies_after (omega (arith, number)) same put.1,
     )
 put_step k (suc i) n (one ∷ seats) seat after replies replies_after number within is same own put = (
@@ -91,7 +90,7 @@ stands_on {D} shelf streams old new i seats seat after within is (inl takes) sta
     let replies = stands.under_way.replies in
     let number : 1 + i ≡ i + 1 = omega arith in
     let turns : turns_left i seats ≡ (i + 1, takes.turn) ∷ turns_left (suc i) (set seats i after) =
-        turn_taken i seats seat after takes.turn within is takes.first ∙ ap (λ n. (n, takes.turn) ∷ turns_left (suc i) (set seats i after)) number in
+    turn_taken i seats seat after takes.turn within is takes.first ∙ ap (λ n. (n, takes.turn) ∷ turns_left (suc i) (set seats i after)) number in
     record {
       under_way = record {
         replies = with_reply_of takes.turn (i + 1) takes.reply replies;
@@ -123,8 +122,8 @@ stands_full {D} shelf streams old i seats seat full within is finds stands =
     let replies = stands.under_way.replies in
     let number : 1 + i ≡ i + 1 = omega arith in
     let turns : turns_left i seats ≡ (i + 1, finds.turn) ∷ turns_left (suc i) (set seats i finds.after) =
-        turn_taken i seats seat finds.after finds.turn within is finds.first
-        ∙ ap (λ n. (n, finds.turn) ∷ turns_left (suc i) (set seats i finds.after)) number in
+    turn_taken i seats seat finds.after finds.turn within is finds.first
+    ∙ ap (λ n. (n, finds.turn) ∷ turns_left (suc i) (set seats i finds.after)) number in
     sym stands.under_way.leads ∙ ap (after_turns shelf (stage_at old replies)) turns
     ∙ lead_on shelf (stage_at old replies) (Err full) (i + 1) finds.turn (turns_left (suc i) (set seats i finds.after)) (finds.leads replies)
 

@@ -73,7 +73,7 @@ answers_request most old new left left_after more gave gave_after request many t
     let t = stand left_after (length new.asked) (old.rest ++ more) in
     let is = cut_is t.rest (took.Request request) new.rest begins in
     let full : filled (length s.left) s ≡ t =
-        taken_is most old.asked new.asked old.rest left left_after more gave gave_after many takes grows (stops_at t (took.Request request) is.0 refl) in
+    taken_is most old.asked new.asked old.rest left left_after more gave gave_after many takes grows (stops_at t (took.Request request) is.0 refl) in
     let size : unanswered t ≡ unanswered s = ap unanswered (sym full) ∙ filled_size (length s.left) s in
     let shorter = cut_shorter t.rest request is.0 in
     let fewer : unanswered (standing_of new left_after) < unanswered s = omega (arith, shorter, size, ap length is.1) in
@@ -93,7 +93,7 @@ answers_bad most old new left left_after more gave gave_after rule many takes gr
     let t = stand left_after (length new.asked) (old.rest ++ more) in
     let is = cut_is t.rest (took.Bad rule) t.rest bad in
     let full : filled (length s.left) s ≡ t =
-        taken_is most old.asked new.asked old.rest left left_after more gave gave_after many takes grows (stops_at t (took.Bad rule) is.0 refl) in
+    taken_is most old.asked new.asked old.rest left left_after more gave gave_after many takes grows (stops_at t (took.Bad rule) is.0 refl) in
     ap (λ (v : State). ahead_from v old left) opened
     ∙ ap ahead_in (visit_is s t (took.Bad rule) t.rest full is.0 is.1)
     ∙ ap (λ (v : State). with_first (Answers (Err rule) true) (ahead_from v new left_after)) (sym stands)
@@ -111,7 +111,7 @@ ends_short most old new left left_after more gave gave_after how many takes grow
     let t = stand left_after (length new.asked) (old.rest ++ more) in
     let is = cut_is t.rest took.NotYet t.rest (short, refl) in
     let full : filled (length s.left) s ≡ t =
-        taken_is most old.asked new.asked old.rest left left_after more gave gave_after many takes grows (stops_empty t none) in
+    taken_is most old.asked new.asked old.rest left left_after more gave gave_after many takes grows (stops_empty t none) in
     ap (λ (v : State). ahead_from v old left) opened
     ∙ ap ahead_in (visit_is s t took.NotYet t.rest full is.0 is.1)
     ∙ ap (λ (h : SessionEnd). with_first (Leaves h) (record { turns = []; taken = length new.asked; how = h })) ends

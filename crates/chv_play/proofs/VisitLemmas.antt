@@ -17,10 +17,6 @@ use Rattle.chv_play.specs.Ahead.{unanswered}
 
 -- ---- sizes
 
-
-
-
-
 piece_size : (s : Standing) → unanswered (with_piece s) ≡ unanswered s
 piece_size s =
     let a = length-drop (asks_for s.taken) s.left in
@@ -71,5 +67,5 @@ enough (suc n) (suc m) s a b =
     let t = filled (length s.left) s in
     let size : unanswered t ≡ unanswered s = filled_size (length s.left) s in
     by_front n m t (cut t.rest).0 (cut t.rest).1 (λ request is.
-        let shorter = cut_shorter t.rest request (sym is) in
-        enough n m (record t { rest = (cut t.rest).1 }) (omega (arith, shorter, size, a)) (omega (arith, shorter, size, b)))
+    let shorter = cut_shorter t.rest request (sym is) in
+    enough n m (record t { rest = (cut t.rest).1 }) (omega (arith, shorter, size, a)) (omega (arith, shorter, size, b)))

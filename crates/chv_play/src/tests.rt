@@ -41,11 +41,7 @@ fn ends_are(sessions: &[SessionTrace], first: SessionEnd, second: SessionEnd) ->
 }
 
 // Plays two sessions, and says whether they took turns and ended so.
-fn take_turns(
-    alloc: Global,
-    first: Asked,
-    end: SessionEnd,
-) -> Result<bool, AllocError> {
+fn take_turns(alloc: Global, first: Asked, end: SessionEnd) -> Result<bool, AllocError> {
     let sessions = [one(alloc, first)?, one(alloc, ping(alloc)?)?];
     let start: Start<MemDisk> = Start {
         disks: Vec::new(alloc),
@@ -53,8 +49,10 @@ fn take_turns(
     };
     let played = play(alloc, start, &sessions);
     match &played.trace {
-        Some(trace) => Ok(callers_are(trace.control.as_slice(), 1, 2)
-            && ends_are(trace.sessions.as_slice(), end, SessionEnd::Ended)),
+        Some(trace) => Ok(
+            callers_are(trace.control.as_slice(), 1, 2)
+                && ends_are(trace.sessions.as_slice(), end, SessionEnd::Ended),
+        ),
         None => Ok(false),
     }
 }

@@ -28,9 +28,9 @@ pub returns-in-Some-clause-gives : goal.returns-in-Some-clause-gives
 returns-in-Some-clause-gives g c =
     let shelf = shelf_of (sectors_of g.D.Disk.sector_count) c.args.control.now.disks in
     let starts : Stands shelf (map stream_of c.args.sessions.now) c.args.control.now 0 c.as_mut_slice.result.now =
-        subst (λ (seats : List Seat). Stands shelf (map stream_of c.args.sessions.now) c.args.control.now 0 seats) (sym c.as_mut_slice.ensures.value)
-        (new_stands shelf (map stream_of c.args.sessions.now) c.args.control.now c.in_ok-seats.seats.items
-        (fresh_stage c.args.control.now c.requires.machine c.requires.history) c.in_ok-seats.ensures) in
+    subst (λ (seats : List Seat). Stands shelf (map stream_of c.args.sessions.now) c.args.control.now 0 seats) (sym c.as_mut_slice.ensures.value)
+    (new_stands shelf (map stream_of c.args.sessions.now) c.args.control.now c.in_ok-seats.seats.items
+    (fresh_stage c.args.control.now c.requires.machine c.requires.history) c.in_ok-seats.ensures) in
     run_full shelf c.args.sessions.now c.in-Some.full
     (subst (λ full. GoesOn shelf (map stream_of c.args.sessions.now) c.rounds.new.control 0 c.rounds.new.seats full) c.in-Some.is
     (c.in_ok-full.ensures.goes_on (map stream_of c.args.sessions.now) starts))
@@ -41,9 +41,9 @@ returns-in_ok-logs_of-in-None-clause-gives g c =
     let same : length c.as_mut_slice.result.now ≡ length c.in_ok-seats.seats.items = ap length c.as_mut_slice.ensures.value in
     let back = written_back c.in_ok-seats.seats.len c.rounds.new.seats c.in_ok-seats.seats.items (c.rounds.ensures.number ∙ same) (sym c.as_mut_slice.ensures.len ∙ same) in
     let starts : Stands shelf (map stream_of c.args.sessions.now) c.args.control.now 0 c.as_mut_slice.result.now =
-        subst (λ (seats : List Seat). Stands shelf (map stream_of c.args.sessions.now) c.args.control.now 0 seats) (sym c.as_mut_slice.ensures.value)
-        (new_stands shelf (map stream_of c.args.sessions.now) c.args.control.now c.in_ok-seats.seats.items
-        (fresh_stage c.args.control.now c.requires.machine c.requires.history) c.in_ok-seats.ensures) in
+    subst (λ (seats : List Seat). Stands shelf (map stream_of c.args.sessions.now) c.args.control.now 0 seats) (sym c.as_mut_slice.ensures.value)
+    (new_stands shelf (map stream_of c.args.sessions.now) c.args.control.now c.in_ok-seats.seats.items
+    (fresh_stage c.args.control.now c.requires.machine c.requires.history) c.in_ok-seats.ensures) in
     run_gives shelf c.args.sessions.now c.rounds.new.control c.rounds.new.seats (c.in_ok-full.ensures.over c.in-None.is)
     (subst (λ full. GoesOn shelf (map stream_of c.args.sessions.now) c.rounds.new.control 0 c.rounds.new.seats full) c.in-None.is
     (c.in_ok-full.ensures.goes_on (map stream_of c.args.sessions.now) starts))

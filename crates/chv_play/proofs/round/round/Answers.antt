@@ -16,20 +16,20 @@ returns-then-is_some-clause-goes_on g c streams stands =
     c.serve.new.seat c.in_ok-full.full (omega arith)
     (ap (λ s. slice_index_or c.loop-i.seats c.loop-i.i s) (sym c.index-seats-i.is)) (sym c.is_some.ensures ∙ c.if-is_some.true)
     (subst (λ disks. IsServed (shelf_of (sectors_of g.D.Disk.sector_count) disks) (c.loop-i.i + 1) c.loop-i.control c.serve.new.control
-        (slice_index_or c.loop-i.seats c.loop-i.i c.index-seats-i.result) c.serve.new.seat c.in_ok-full.full) c.loop-i.invariant.disks c.in_ok-full.ensures.served)
+    (slice_index_or c.loop-i.seats c.loop-i.i c.index-seats-i.result) c.serve.new.seat c.in_ok-full.full) c.loop-i.invariant.disks c.in_ok-full.ensures.served)
     (c.loop-i.invariant.goes_on streams stands)
 
 pub loop-i-preserved : goal.loop-i-preserved
 loop-i-preserved g c =
     let seat = slice_index_or c.loop-i.seats c.loop-i.i c.index-seats-i.result in
     let is : slice_index_or c.loop-i.seats c.loop-i.i seat ≡ seat =
-        ap (λ s. slice_index_or c.loop-i.seats c.loop-i.i s) (sym c.index-seats-i.is) in
+    ap (λ s. slice_index_or c.loop-i.seats c.loop-i.i s) (sym c.index-seats-i.is) in
     let served = is_none_served _ _ _ _ seat c.serve.new.seat c.in_ok-full.full (sym c.is_some.ensures ∙ c.if-is_some.false) c.in_ok-full.ensures.served in
     record {
       goes_on = λ streams stands.
           next_stands _ streams c.loop-i.control c.serve.new.control c.loop-i.i c.loop-i.seats seat c.serve.new.seat (omega arith) is
           (subst (λ disks. IsServed (shelf_of (sectors_of g.D.Disk.sector_count) disks) (c.loop-i.i + 1) c.loop-i.control c.serve.new.control
-              seat c.serve.new.seat None) c.loop-i.invariant.disks served)
+          seat c.serve.new.seat None) c.loop-i.invariant.disks served)
           (c.loop-i.invariant.goes_on streams stands);
       visits = next_visits _ _ _ _ c.loop-i.i c.loop-i.seats seat c.serve.new.seat (omega arith) is served ∙ c.loop-i.invariant.visits;
       seated = next_seated _ _ _ _ c.loop-i.i c.loop-i.seats seat c.serve.new.seat is served c.loop-i.invariant.seated;

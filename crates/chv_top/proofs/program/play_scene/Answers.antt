@@ -25,4 +25,4 @@ returns-clause-reports g c =
 
 pub returns-clause-disks : goal.returns-clause-disks
 returns-clause-disks g c =
-    c.handed_back.ensures ∙ ap (λ start. handed_in start.disks.items) c.play-played.ensures.start ∙ ap handed_in c.in-Ok.ensures.ok.0 ∙ handed_given c.args.disks.items
+    c.handed_back.ensures ∙ ap handed_in c.play-played.ensures.disks ∙ ap handed_in c.in-Ok.ensures.ok.0 ∙ handed_given c.args.disks.items
