@@ -152,7 +152,7 @@ fn an_input_that_is_too_long(rt: HostRuntime) -> Result<(), Fail> {
     let mut out = MemSink::new(alloc, 100, calls(alloc, 0)?)?;
     let ended = play_program(alloc, &mut input, &mut out, disks_of(alloc, "root")?);
     assert!(rt; ended.status.code() == 9);
-    assert!(rt; out.written() == b"chv: too long\n");
+    assert!(rt; out.written() == "chv: too long\n".as_bytes());
     assert_eq!(rt; ended.disks.len(), 1);
     Ok(())
 }
