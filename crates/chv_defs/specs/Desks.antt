@@ -57,3 +57,13 @@ can_have (call.AddDisk disk) (reply.Added id slot) = true
 can_have (call.Begin goal) reply.Holding = true
 can_have c reply.Done = is_session_call c
 can_have _ _ = false
+
+-- These calls were asked at a desk, one after another, and nothing else was done to it; `asks` says what holds between the
+-- desk before a call and the desk behind it.
+abbrev pub AreAsked : {A : Type 0} → (A → ControlCall → A → Type 0) → A → List ControlCall → A → Type 0
+AreAsked asks before [] after = after ≡ before
+AreAsked {A} asks before (c ∷ calls) after = (between : A) × asks before c between × AreAsked asks between calls after
+
+-- Nothing was done to a desk but that calls were asked there.
+abbrev pub IsOnlyAsked : {A : Type 0} → (A → ControlCall → A → Type 0) → A → A → Type 0
+IsOnlyAsked asks before after = (calls : List ControlCall) × AreAsked asks before calls after

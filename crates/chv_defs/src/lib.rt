@@ -37,7 +37,7 @@ pub use desk::{Desk, Stopped};
 pub use exact::{Exact, copy_of};
 pub use info::{DeviceInfo, Info, ShownState, ZoneInfo};
 pub use machine::{Life, Machine, Region};
-pub use name::Name;
+pub use name::{Name, is_name};
 pub use path::last_component;
 pub use place::Place;
 pub use register::RegAccess;

@@ -31,7 +31,8 @@ impl Model for Name {
     ghost invariant = { λ n. is_name n.text ≡ true };
 }
 
-fn is_name_text(bytes: &[u8]) -> bool
+/// Whether bytes are a name. Takes no memory.
+pub fn is_name(bytes: &[u8]) -> bool
     ensures { result ≡ is_name bytes.now }
 {
     1 <= bytes.len() && bytes.len() <= 64 && has_name_bytes(bytes) && !has_dot_first(bytes)
@@ -68,7 +69,7 @@ impl Name {
     pub fn of(text: Text) -> Result<Name, Text>
         ensures named { MatchResult result (λ name. (name ≡ text) × (is_name text ≡ true)) (λ back. (back ≡ text) × (is_name text ≡ false)) }
     {
-        if is_name_text(text.as_str().as_bytes()) {
+        if is_name(text.as_str().as_bytes()) {
             Ok(Name { text })
         } else {
             Err(text)

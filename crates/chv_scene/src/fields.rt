@@ -2,8 +2,6 @@
 ghost use Rattle.std.specs.Prelude.{◌≡◌, ◌==◌, ◌&&◌, nat_le, length, option_map};
 ghost use Rattle.std.specs.List.{list_all};
 ghost use Rattle.std.specs.Str.{bytes_eq};
-ghost use Rattle.chv_defs.specs.Name.{is_name_byte, starts_with_dot};
-ghost use Rattle.chv_defs.specs.Name as name;
 ghost use Rattle.chv_defs.specs.ScenarioText.{is_route_byte};
 ghost use Rattle.chv_defs.specs.ScenarioText as line;
 ghost use Rattle.chv_scene.specs.Cuts.{cut_at};
@@ -64,39 +62,6 @@ pub(crate) fn is_route_name(field: &[u8]) -> bool
     ensures { result ≡ line.is_route_name field.now }
 {
     1 <= field.len() && field.len() <= 32 && are_route_letters(field)
-}
-
-fn is_name_letter(byte: u8) -> bool
-    ensures { result ≡ is_name_byte byte }
-{
-    (48 <= byte && byte <= 57)
-        || (65 <= byte && byte <= 90)
-        || (97 <= byte && byte <= 122)
-        || byte == b'.'
-        || byte == b'_'
-        || byte == b'-'
-}
-
-fn are_name_letters(text: &[u8]) -> bool
-    ensures { result ≡ list_all is_name_byte text.now }
-{
-    text.iter().all(|b| is_name_letter(*b))
-}
-
-fn begins_with_dot(text: &[u8]) -> bool
-    ensures { result ≡ starts_with_dot text.now }
-{
-    match text {
-        [first, ..] => *first == b'.',
-        [] => false,
-    }
-}
-
-/// Whether the field is a name of a disk.
-pub(crate) fn is_name(field: &[u8]) -> bool
-    ensures { result ≡ name.is_name field.now }
-{
-    1 <= field.len() && field.len() <= 64 && are_name_letters(field) && !begins_with_dot(field)
 }
 
 /// Whether the field spells a number from `low` to `high`.
