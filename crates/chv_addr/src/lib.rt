@@ -5,8 +5,6 @@ mod laws;
 mod layout;
 mod map;
 mod search;
-#[cfg(test)]
-mod tests;
 mod windows;
 
 pub use laws::{blocks_have_one_address, checked_zones_fit, intervals_never_overlap};

@@ -5,8 +5,6 @@ mod call;
 mod reply;
 mod route;
 mod snapshot;
-#[cfg(test)]
-mod tests;
 
 pub use call::calls_of;
 pub use reply::{refusal_of, reply_of};

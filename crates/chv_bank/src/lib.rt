@@ -11,8 +11,6 @@ mod pins;
 mod sheets;
 mod state;
 mod steps;
-#[cfg(test)]
-mod tests;
 
 pub use bank::Bank;
 pub use laws::{

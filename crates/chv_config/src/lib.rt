@@ -8,8 +8,6 @@ mod disks;
 mod ids;
 mod laws;
 mod memory;
-#[cfg(test)]
-mod tests;
 mod texts;
 
 pub use answers::{check, check_disk};

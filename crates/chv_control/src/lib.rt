@@ -13,6 +13,3 @@ pub use control::Control;
 pub use inner::Inner;
 pub use laws::refusals_change_nothing;
 pub use start::Start;
-
-#[cfg(test)]
-mod tests;

@@ -13,6 +13,3 @@ mod step;
 pub use laws::{answers_fit, refused_calls_change_nothing, states_stay_well_formed};
 pub use queries::show;
 pub use step::{api_leave, api_reply, api_step};
-
-#[cfg(test)]
-mod tests;

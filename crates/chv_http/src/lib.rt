@@ -8,8 +8,6 @@ mod laws;
 mod parser;
 mod reply;
 mod stage;
-#[cfg(test)]
-mod tests;
 
 pub use chv_defs::{Request, Took};
 pub use laws::{any_pieces, cut_computes, decided_by_bytes};

@@ -9,8 +9,6 @@ mod info_json;
 mod laws;
 mod read;
 mod refused;
-#[cfg(test)]
-mod tests;
 mod to_json;
 mod write;
 

@@ -5,8 +5,6 @@ mod digits;
 mod fields;
 mod laws;
 mod pairs;
-#[cfg(test)]
-mod tests;
 
 pub use digits::{read_dec, read_hex};
 pub use fields::{get_le, put_le};

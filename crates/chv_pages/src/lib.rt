@@ -8,7 +8,5 @@ mod lists;
 mod page;
 mod pages;
 mod reads;
-#[cfg(test)]
-mod tests;
 
 pub use pages::Pages;

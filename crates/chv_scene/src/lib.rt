@@ -8,8 +8,6 @@ mod outside;
 mod reading;
 mod scenario;
 mod section;
-#[cfg(test)]
-mod tests;
 
 pub use laws::reads_exactly_the_scenarios;
 pub use scenario::{SceneFault, read};

@@ -6,6 +6,3 @@ mod mem_disk;
 
 pub use any_disk::AnyDisk;
 pub use mem_disk::MemDisk;
-
-#[cfg(test)]
-mod tests;

@@ -10,6 +10,3 @@ mod top;
 
 pub use status::{Ended, Status};
 pub use top::{play_program, run_program};
-
-#[cfg(test)]
-mod tests;

@@ -13,6 +13,3 @@ mod sessions;
 
 pub use print_error::PrintError;
 pub use printer::print;
-
-#[cfg(test)]
-mod tests;

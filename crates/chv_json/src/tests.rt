@@ -1,2 +1,0 @@
-mod reads;
-mod writes;
