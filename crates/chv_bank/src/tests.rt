@@ -54,13 +54,13 @@ fn a_pinned_block_is_busy(rt: HostRuntime) -> Result<(), Fail> {
         count: 1,
     };
     let mut bank = shaped(rt.alloc(), 1, 513)?;
-    assert_eq!(rt; bank.access(18, &pin_of(512, 1))??, BankReply::Pinned);
-    assert_eq!(rt;
-        bank.owner(&BankCall::Seal(span)),
-        BankReply::Busy {
-            block: 512,
-            caller: 18
-        }
+    assert!(rt; bank.access(18, &pin_of(512, 1))?? == BankReply::Pinned);
+    assert!(rt;
+        bank.owner(&BankCall::Seal(span))
+            == BankReply::Busy {
+                block: 512,
+                caller: 18
+            }
     );
     Ok(())
 }
@@ -74,7 +74,7 @@ fn an_unpinned_block_is_sealed(rt: HostRuntime) -> Result<(), Fail> {
     let mut bank = shaped(rt.alloc(), 1, 513)?;
     bank.access(18, &pin_of(512, 1))??;
     bank.access(18, &BankCall::Unpin { number: 7 })??;
-    assert_eq!(rt; bank.owner(&BankCall::Seal(span)), BankReply::Sealed);
+    assert!(rt; bank.owner(&BankCall::Seal(span)) == BankReply::Sealed);
     Ok(())
 }
 
@@ -86,8 +86,8 @@ fn a_closed_block_faults(rt: HostRuntime) -> Result<(), Fail> {
     };
     let mut bank = shaped(rt.alloc(), 2, 513)?;
     bank.owner(&BankCall::Seal(span));
-    assert_eq!(rt; bank.owner(&BankCall::Close(span)), BankReply::Closed);
-    assert_eq!(rt; bank.access(18, &read_of(512, 1))??, BankReply::Fault(512));
+    assert!(rt; bank.owner(&BankCall::Close(span)) == BankReply::Closed);
+    assert!(rt; bank.access(18, &read_of(512, 1))?? == BankReply::Fault(512));
     Ok(())
 }
 
@@ -99,12 +99,12 @@ fn a_pin_on_the_last_block_seals_none(rt: HostRuntime) -> Result<(), Fail> {
     };
     let mut bank = shaped(rt.alloc(), 1, 516)?;
     bank.access(18, &pin_of(515, 1))??;
-    assert_eq!(rt;
-        bank.owner(&BankCall::Seal(span)),
-        BankReply::Busy {
-            block: 515,
-            caller: 18
-        }
+    assert!(rt;
+        bank.owner(&BankCall::Seal(span))
+            == BankReply::Busy {
+                block: 515,
+                caller: 18
+            }
     );
     assert!(rt; bank.access(1, &read_of(512, 1))?.is_ok());
     Ok(())
@@ -134,10 +134,7 @@ fn a_block_that_is_plugged_again_reads_as_zero(rt: HostRuntime) -> Result<(), Fa
     bank.owner(&BankCall::Seal(span));
     bank.owner(&BankCall::Close(span));
     bank.owner(&BankCall::Open(span));
-    assert_eq!(rt;
-        bank.access(1, &read_of(0, 1))??,
-        BankReply::Got(Bytes::of(alloc, b"\0")?)
-    );
+    assert!(rt; bank.access(1, &read_of(0, 1))?? == BankReply::Got(Bytes::of(alloc, b"\0")?));
     Ok(())
 }
 
@@ -150,15 +147,14 @@ fn a_byte_and_the_zeros_behind_it(rt: HostRuntime) -> Result<(), Fail> {
         offset: 4096,
         bytes: Bytes::of(alloc, &[0xab])?,
     };
-    assert_eq!(rt; bank.access(1, &write)??, BankReply::Done);
+    assert!(rt; bank.access(1, &write)?? == BankReply::Done);
     let read = BankCall::Read {
         block: 0,
         offset: 4096,
         len: 8,
     };
-    assert_eq!(rt;
-        bank.access(2, &read)??,
-        BankReply::Got(Bytes::of(alloc, &[0xab, 0, 0, 0, 0, 0, 0, 0])?)
+    assert!(rt;
+        bank.access(2, &read)?? == BankReply::Got(Bytes::of(alloc, &[0xab, 0, 0, 0, 0, 0, 0, 0])?)
     );
     Ok(())
 }
@@ -168,10 +164,7 @@ fn frozen_before_sealed(rt: HostRuntime) -> Result<(), Fail> {
     let mut bank = shaped(rt.alloc(), 2, 1)?;
     bank.owner(&BankCall::Seal(Span { first: 0, count: 1 }));
     bank.owner(&BankCall::Freeze);
-    assert_eq!(rt;
-        bank.access(1, &read_of(0, 1))?.err(),
-        Some(Refusal::Frozen { seen: 3 })
-    );
+    assert!(rt; bank.access(1, &read_of(0, 1))?.err() == Some(Refusal::Frozen { seen: 3 }));
     Ok(())
 }
 
@@ -179,9 +172,8 @@ fn frozen_before_sealed(rt: HostRuntime) -> Result<(), Fail> {
 fn sealed_before_full(rt: HostRuntime) -> Result<(), Fail> {
     let mut bank = shaped(rt.alloc(), 1_048_575, 1)?;
     bank.owner(&BankCall::Seal(Span { first: 0, count: 1 }));
-    assert_eq!(rt;
-        bank.access(1, &read_of(0, 1))?.err(),
-        Some(Refusal::Sealed { block: 0, seen: 2 })
+    assert!(rt;
+        bank.access(1, &read_of(0, 1))?.err() == Some(Refusal::Sealed { block: 0, seen: 2 })
     );
     Ok(())
 }
@@ -190,13 +182,13 @@ fn sealed_before_full(rt: HostRuntime) -> Result<(), Fail> {
 fn a_pin_needs_two_places(rt: HostRuntime) -> Result<(), Fail> {
     let mut bank = shaped(rt.alloc(), 1_048_572, 1)?;
     bank.access(1, &pin_of(0, 1))??;
-    assert_eq!(rt;
-        bank.access(2, &pin_of(0, 1))?.err(),
-        Some(Refusal::Full(Full {
-            book: BookId::Bank { zone: 0, bank: 0 },
-            entries: 1_048_575,
-            bytes: 0,
-        }))
+    assert!(rt;
+        bank.access(2, &pin_of(0, 1))?.err()
+            == Some(Refusal::Full(Full {
+                book: BookId::Bank { zone: 0, bank: 0 },
+                entries: 1_048_575,
+                bytes: 0,
+            }))
     );
     assert!(rt; bank.access(2, &read_of(0, 1))?.is_ok());
     Ok(())
@@ -208,7 +200,7 @@ fn an_unpin_has_its_place(rt: HostRuntime) -> Result<(), Fail> {
     bank.access(1, &pin_of(0, 1))??;
     assert!(rt; bank.access(2, &read_of(0, 1))?.is_err());
     let done = bank.access(1, &BankCall::Unpin { number: 7 })??;
-    assert_eq!(rt; done, BankReply::Done);
+    assert!(rt; done == BankReply::Done);
     Ok(())
 }
 
@@ -217,16 +209,16 @@ fn a_full_bank(rt: HostRuntime) -> Result<(), Fail> {
     let mut bank = Bank::new(rt.alloc(), 0, 0)?;
     assert!(rt; bank.room(1_048_577, 0)?.is_err());
     bank.room(1, 4096)??;
-    assert_eq!(rt;
-        bank.access(1, &read_of(0, 1))?.err(),
-        Some(Refusal::Full(Full {
-            book: BookId::Bank { zone: 0, bank: 0 },
-            entries: 1,
-            bytes: 16_777_216,
-        }))
+    assert!(rt;
+        bank.access(1, &read_of(0, 1))?.err()
+            == Some(Refusal::Full(Full {
+                book: BookId::Bank { zone: 0, bank: 0 },
+                entries: 1,
+                bytes: 16_777_216,
+            }))
     );
     bank.give_back(0);
-    assert_eq!(rt; bank.history().len(), 0);
+    assert!(rt; bank.history().len() == 0);
     Ok(())
 }
 
@@ -249,9 +241,9 @@ fn pages_are_filled_and_shown(rt: HostRuntime) -> Result<(), Fail> {
     };
     bank.owner(&fill);
     bank.owner(&BankCall::Freeze);
-    assert_eq!(rt; bank.owner(&BankCall::Show), BankReply::Pages(1));
+    assert!(rt; bank.owner(&BankCall::Show) == BankReply::Pages(1));
     let pages = bank.pages()?;
-    assert_eq!(rt; pages.len(), 1);
+    assert!(rt; pages.len() == 1);
     bank.owner(&BankCall::Thaw);
     bank.owner(&BankCall::Wipe);
     assert!(rt; bank.pages()?.is_empty());

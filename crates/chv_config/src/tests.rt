@@ -122,7 +122,7 @@ fn vcpus_and_memory(rt: HostRuntime) -> Result<(), Fail> {
         ((1, 1), (2 * MIB, 2 * MIB, 2 * MIB), Some(Rule::WayAcpi)),
     ] {
         let config = config_of(alloc, cpus, memory, acpi, &[], &[])?;
-        assert_eq!(rt; rule_of(alloc, config)?, rule, "{cpus:?} {memory:?}");
+        assert!(rt; rule_of(alloc, config)? == rule, "{cpus:?} {memory:?}");
     }
     let grown = config_of(
         alloc,
@@ -132,7 +132,7 @@ fn vcpus_and_memory(rt: HostRuntime) -> Result<(), Fail> {
         &[],
         &[],
     )?;
-    assert_eq!(rt; rule_of(alloc, grown)?, None);
+    assert!(rt; rule_of(alloc, grown)? == None);
     Ok(())
 }
 
@@ -179,7 +179,7 @@ fn zones(rt: HostRuntime) -> Result<(), Fail> {
         ((0, 0, 0), ("z1", GIB, 2 * MIB, 0), Some(Rule::WayForZones)),
     ] {
         let config = config_of(alloc, (1, 1), memory, Hotplug::Acpi, &[one, second], &[])?;
-        assert_eq!(rt; rule_of(alloc, config)?, rule, "{memory:?} {second:?}");
+        assert!(rt; rule_of(alloc, config)? == rule, "{memory:?} {second:?}");
     }
     for (count, rule) in [(8, None), (9, Some(Rule::TooManyZones))] {
         let mut config = config_of(alloc, (1, 1), (0, 0, 0), Hotplug::VirtioMem, &[], &[])?;
@@ -188,7 +188,7 @@ fn zones(rt: HostRuntime) -> Result<(), Fail> {
             let zone = zone_of(alloc, &(id.as_str(), 2 * MIB, 2 * MIB, 0))?;
             config.memory.zones.push(zone)?;
         }
-        assert_eq!(rt; rule_of(alloc, config)?, rule, "{count}");
+        assert!(rt; rule_of(alloc, config)? == rule, "{count}");
     }
     Ok(())
 }
@@ -218,7 +218,7 @@ fn disks(rt: HostRuntime) -> Result<(), Fail> {
     ] {
         let way = Hotplug::VirtioMem;
         let config = config_of(alloc, (1, 1), (GIB, GIB, 0), way, &[], &[GOOD, second])?;
-        assert_eq!(rt; rule_of(alloc, config)?, rule, "{second:?}");
+        assert!(rt; rule_of(alloc, config)? == rule, "{second:?}");
     }
     Ok(())
 }
@@ -244,16 +244,16 @@ fn worked_configurations(rt: HostRuntime) -> Result<(), Fail> {
     match check(alloc, &config, &names_of(alloc, &["focal.raw"])?)? {
         Ok(checked) => {
             assert!(rt; has_ids(checked.config.disks.as_slice(), &["_disk0"]));
-            assert_eq!(rt; checked.config.memory, config.memory);
+            assert!(rt; checked.config.memory == config.memory);
             let zones = [zone_of(alloc, &("mem0", 536870912, 0, 0))?];
-            assert_eq!(rt; checked.zones.as_slice(), zones.as_slice());
+            assert!(rt; checked.zones.as_slice() == zones.as_slice());
         }
-        Err(rule) => assert!(rt; false, "{rule:?}"),
+        Err(rule) => assert!(rt; false, "{}", rule.name()),
     }
     let none = config_of(alloc, (0, 1), (536870912, 0, 0), acpi, &[], &[])?;
-    assert_eq!(rt; rule_of(alloc, none)?, Some(Rule::BootZero));
+    assert!(rt; rule_of(alloc, none)? == Some(Rule::BootZero));
     let above = config_of(alloc, (3, 2), (536870912, 0, 0), acpi, &[], &[])?;
-    assert_eq!(rt; rule_of(alloc, above)?, Some(Rule::BootAboveMax));
+    assert!(rt; rule_of(alloc, above)? == Some(Rule::BootAboveMax));
     let both = config_of(
         alloc,
         (1, 1),
@@ -262,7 +262,7 @@ fn worked_configurations(rt: HostRuntime) -> Result<(), Fail> {
         &[("z0", GIB, 0, 0)],
         &[],
     )?;
-    assert_eq!(rt; rule_of(alloc, both)?, Some(Rule::ZonesNeedSizeZero));
+    assert!(rt; rule_of(alloc, both)? == Some(Rule::ZonesNeedSizeZero));
     Ok(())
 }
 
@@ -287,11 +287,11 @@ fn further_disks(rt: HostRuntime) -> Result<(), Fail> {
             ] {
                 match check_disk(alloc, &now, &disk_of(alloc, &disk)?, &names)? {
                     Ok(named) => assert!(rt; rule.is_none() && has_ids(&[named], &["_disk2"])),
-                    Err(broken) => assert_eq!(rt; Some(broken), rule, "{disk:?}"),
+                    Err(broken) => assert!(rt; Some(broken) == rule, "{}", broken.name()),
                 }
             }
         }
-        Err(rule) => assert!(rt; false, "{rule:?}"),
+        Err(rule) => assert!(rt; false, "{}", rule.name()),
     }
     Ok(())
 }
@@ -314,11 +314,11 @@ fn many_devices(rt: HostRuntime) -> Result<(), Fail> {
         }
         match check(alloc, &config, &names)? {
             Ok(checked) => {
-                assert_eq!(rt; rule, None);
+                assert!(rt; rule == None);
                 let last = checked.config.disks.as_slice().last();
                 assert!(rt; last.is_some_and(|disk| has_id(disk, "_disk30")));
             }
-            Err(broken) => assert_eq!(rt; Some(broken), rule),
+            Err(broken) => assert!(rt; Some(broken) == rule),
         }
     }
     Ok(())

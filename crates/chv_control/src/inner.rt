@@ -2,7 +2,7 @@
 use chv_defs::Full;
 
 /// Why a call makes no entry. So far only `Full` comes.
-#[derive(Clone, Copy, PartialEq, Eq, Debug)]
+#[derive(Clone, Copy, PartialEq, Eq)]
 pub enum Inner {
     /// The call waits for this context to come home, and is made again then.
     Again { context: u32 },

@@ -2,14 +2,14 @@
 use crate::Bytes;
 
 /// Blocks of 2 MiB that follow each other: `count` of them from `first` on.
-#[derive(Clone, Copy, PartialEq, Eq, Debug)]
+#[derive(Clone, Copy, PartialEq, Eq)]
 pub struct Span {
     pub first: u32,
     pub count: u32,
 }
 
 /// A call on a bank. Numbers of blocks are the zone's; offsets and lengths are in bytes.
-#[derive(Clone, PartialEq, Eq, Debug, Drop)]
+#[derive(Clone, PartialEq, Eq, Drop)]
 pub enum BankCall {
     /// Opens the blocks below a number, and no others; every byte is 0.
     Shape(u32),
@@ -49,7 +49,7 @@ pub enum BankCall {
 }
 
 /// The answer of a bank.
-#[derive(Clone, PartialEq, Eq, Debug, Drop)]
+#[derive(Clone, PartialEq, Eq, Drop)]
 pub enum BankReply {
     Done,
     Got(Bytes),
@@ -64,7 +64,7 @@ pub enum BankReply {
 }
 
 /// One entry of a bank's history.
-#[derive(Clone, PartialEq, Eq, Debug, Drop)]
+#[derive(Clone, PartialEq, Eq, Drop)]
 pub struct BankEntry {
     /// 0 is the owner, 1 + n the context of vCPU n, 16 + s that of the device in slot s.
     pub caller: u32,
@@ -98,7 +98,7 @@ pub enum BookId {
 }
 
 /// A page of 4,096 bytes in a block of 512 pages.
-#[derive(Clone, PartialEq, Eq, Debug, Drop)]
+#[derive(Clone, PartialEq, Eq, Drop)]
 pub struct PageAt {
     pub block: u32,
     pub page: u16,

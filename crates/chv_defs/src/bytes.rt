@@ -11,7 +11,7 @@ use std::hash::{Hash, Hasher};
 use std::marker::Model;
 
 /// Bytes that are owned. Contracts see them as their list.
-#[derive(Drop, Debug)]
+#[derive(Drop)]
 pub struct Bytes {
     bytes: Vec<u8>,
 }

@@ -2,7 +2,7 @@
 use crate::{Row, Text};
 
 /// The configuration that `vm.create` takes. All sizes are in bytes.
-#[derive(Clone, PartialEq, Eq, Debug, Drop)]
+#[derive(Clone, PartialEq, Eq, Drop)]
 pub struct VmConfig {
     pub cpus: CpuConfig,
     pub memory: MemConfig,
@@ -10,7 +10,7 @@ pub struct VmConfig {
 }
 
 /// How many vCPUs are present at boot, and how many there may be.
-#[derive(Clone, Copy, PartialEq, Eq, Debug)]
+#[derive(Clone, Copy, PartialEq, Eq)]
 pub struct CpuConfig {
     pub boot: u64,
     pub max: u64,
@@ -18,7 +18,7 @@ pub struct CpuConfig {
 
 /// The memory. `size`, `hotplug` and `hotplugged` are those of the zone `mem0`, which is in effect where `zones` is
 /// empty; else they have to be 0.
-#[derive(Clone, PartialEq, Eq, Debug, Drop)]
+#[derive(Clone, PartialEq, Eq, Drop)]
 pub struct MemConfig {
     /// Bytes of boot memory.
     pub size: u64,
@@ -32,14 +32,14 @@ pub struct MemConfig {
 }
 
 /// How memory is plugged: by ACPI memory modules, or by a virtio-mem device (VIRTIO 1.2, 5.15).
-#[derive(Clone, Copy, PartialEq, Eq, Debug)]
+#[derive(Clone, Copy, PartialEq, Eq)]
 pub enum Hotplug {
     Acpi,
     VirtioMem,
 }
 
 /// A memory zone, with sizes in bytes as in `MemConfig`.
-#[derive(Clone, PartialEq, Eq, Debug, Drop)]
+#[derive(Clone, PartialEq, Eq, Drop)]
 pub struct ZoneConfig {
     pub id: Text,
     pub size: u64,
@@ -48,7 +48,7 @@ pub struct ZoneConfig {
 }
 
 /// A disk: the last component of `path` names one of the disks that stand by.
-#[derive(Clone, PartialEq, Eq, Debug, Drop)]
+#[derive(Clone, PartialEq, Eq, Drop)]
 pub struct DiskConfig {
     pub path: Text,
     pub id: Option<Text>,
@@ -61,7 +61,7 @@ pub struct DiskConfig {
 
 /// A configuration that breaks no rule: each disk has an id, and `zones` are the zones in effect, which are
 /// the configured ones, or the one zone `mem0` with the memory's own sizes.
-#[derive(Clone, PartialEq, Eq, Debug, Drop)]
+#[derive(Clone, PartialEq, Eq, Drop)]
 pub struct Checked {
     pub config: VmConfig,
     pub zones: Row<ZoneConfig>,

@@ -2,7 +2,7 @@
 use crate::{BookId, Full, Row, Text};
 
 /// The saved state of a context.
-#[derive(Clone, Copy, PartialEq, Eq, Debug)]
+#[derive(Clone, Copy, PartialEq, Eq)]
 pub enum ContextNote {
     Cpu(CpuNote),
     Queue(QueueNote),
@@ -10,7 +10,7 @@ pub enum ContextNote {
 
 /// A vCPU: the script line that it executes next, counted from 0, the instructions that it may still
 /// execute, and its registers r0 to r15.
-#[derive(Clone, Copy, PartialEq, Eq, Debug)]
+#[derive(Clone, Copy, PartialEq, Eq)]
 pub struct CpuNote {
     pub vcpu: u8,
     pub pos: u32,
@@ -20,7 +20,7 @@ pub struct CpuNote {
 }
 
 /// A device's queue (VIRTIO 1.2, 2.7): the next index of the driver ring and of the device ring.
-#[derive(Clone, Copy, PartialEq, Eq, Debug)]
+#[derive(Clone, Copy, PartialEq, Eq)]
 pub struct QueueNote {
     pub slot: u8,
     pub last: u16,
@@ -29,7 +29,7 @@ pub struct QueueNote {
 }
 
 /// What a disk has done: requests and bytes.
-#[derive(Clone, Copy, PartialEq, Eq, Debug)]
+#[derive(Clone, Copy, PartialEq, Eq)]
 pub struct DiskCount {
     pub reads: u64,
     pub writes: u64,
@@ -38,21 +38,21 @@ pub struct DiskCount {
 }
 
 /// The counts of the disk with this id.
-#[derive(Clone, PartialEq, Eq, Debug, Drop)]
+#[derive(Clone, PartialEq, Eq, Drop)]
 pub struct CountOf {
     pub id: Text,
     pub count: DiskCount,
 }
 
 /// What a device is, with its place among the configuration's disks or zones.
-#[derive(Clone, Copy, PartialEq, Eq, Debug)]
+#[derive(Clone, Copy, PartialEq, Eq)]
 pub enum DeviceKind {
     Disk(u8),
     Memory(u8),
 }
 
 /// How a context comes home: its state, how its slice ended, and the books of its entries in order.
-#[derive(Clone, PartialEq, Eq, Debug, Drop)]
+#[derive(Clone, PartialEq, Eq, Drop)]
 pub struct HandNote {
     pub note: ContextNote,
     pub end: SliceEnd,
@@ -60,7 +60,7 @@ pub struct HandNote {
 }
 
 /// How a slice ends.
-#[derive(Clone, Copy, PartialEq, Eq, Debug)]
+#[derive(Clone, Copy, PartialEq, Eq)]
 pub enum SliceEnd {
     /// It did as much as one slice may.
     Full,
@@ -74,7 +74,7 @@ pub enum SliceEnd {
 }
 
 /// What is wrong with a queue or a chain of it. Addresses are the guest's.
-#[derive(Clone, Copy, PartialEq, Eq, Debug)]
+#[derive(Clone, Copy, PartialEq, Eq)]
 pub enum QueueFault {
     BadIndex,
     Loop,
@@ -87,7 +87,7 @@ pub enum QueueFault {
 }
 
 /// Why a run stops before its end.
-#[derive(Clone, Copy, PartialEq, Eq, Debug)]
+#[derive(Clone, Copy, PartialEq, Eq)]
 pub enum StopCause {
     Memory,
     Full(Full),

@@ -5,7 +5,7 @@ use crate::{
 };
 
 /// Where a pause, a shutdown or a delete leads.
-#[derive(Clone, Copy, PartialEq, Eq, Debug)]
+#[derive(Clone, Copy, PartialEq, Eq)]
 pub enum Goal {
     Pause,
     Shutdown,
@@ -13,7 +13,7 @@ pub enum Goal {
 }
 
 /// What a caller takes: a vCPU, or the lowest queue that is ready.
-#[derive(Clone, Copy, PartialEq, Eq, Debug)]
+#[derive(Clone, Copy, PartialEq, Eq)]
 pub enum Role {
     Vcpu(u8),
     Queue,
@@ -21,7 +21,7 @@ pub enum Role {
 
 /// A control call. Sessions make those of the API, `Settle` and `Bye`; runners and workers `Take`, `Hand`, `Reg` and
 /// `Mem`; any caller makes `Stop`.
-#[derive(Clone, PartialEq, Eq, Debug, Drop)]
+#[derive(Clone, PartialEq, Eq, Drop)]
 pub enum ControlCall {
     Ping,
     Info,
@@ -62,7 +62,7 @@ pub enum ControlCall {
 }
 
 /// A request to a memory device (VIRTIO 1.2, 5.15.6): its type, a guest address and a number of blocks.
-#[derive(Clone, Copy, PartialEq, Eq, Debug)]
+#[derive(Clone, Copy, PartialEq, Eq)]
 pub struct MemRequest {
     pub kind: u16,
     pub addr: u64,
@@ -70,7 +70,7 @@ pub struct MemRequest {
 }
 
 /// The answer of a memory device: its type and state, and for BUSY the block and who pins it.
-#[derive(Clone, Copy, PartialEq, Eq, Debug)]
+#[derive(Clone, Copy, PartialEq, Eq)]
 pub struct MemAnswer {
     pub kind: u16,
     pub state: u16,
@@ -78,14 +78,14 @@ pub struct MemAnswer {
 }
 
 /// A pinned block, and a bank caller that pins it.
-#[derive(Clone, Copy, PartialEq, Eq, Debug)]
+#[derive(Clone, Copy, PartialEq, Eq)]
 pub struct BusyAt {
     pub block: u32,
     pub caller: u32,
 }
 
 /// The answer of the control machine.
-#[derive(Clone, PartialEq, Eq, Debug, Drop)]
+#[derive(Clone, PartialEq, Eq, Drop)]
 pub enum ControlReply {
     Done,
     Shown(Info),
@@ -103,7 +103,7 @@ pub enum ControlReply {
 }
 
 /// One entry of the control history.
-#[derive(Clone, PartialEq, Eq, Debug, Drop)]
+#[derive(Clone, PartialEq, Eq, Drop)]
 pub struct ControlEntry {
     /// 0 is the main thread, 1 to 16 are sessions, 17 + n is the runner of vCPU n, 33 and 34 are the workers.
     pub caller: u32,

@@ -7,7 +7,7 @@ use crate::{ControlCall, ControlReply};
 use std::alloc::AllocError;
 
 /// The run stops: a `Stop` stands in the control history, or a book refused the call with Full.
-#[derive(Clone, Copy, PartialEq, Eq, Debug)]
+#[derive(Clone, Copy, PartialEq, Eq)]
 pub struct Stopped;
 
 /// A caller's place at the control machine. `R` is what a call that waits needs, and `()` where nothing waits.

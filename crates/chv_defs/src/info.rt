@@ -2,7 +2,7 @@
 use crate::{Row, Text, VmConfig};
 
 /// The value of `vm.info`.
-#[derive(Clone, PartialEq, Eq, Debug, Drop)]
+#[derive(Clone, PartialEq, Eq, Drop)]
 pub struct Info {
     pub config: VmConfig,
     pub devices: Row<DeviceInfo>,
@@ -15,14 +15,14 @@ pub struct Info {
 }
 
 /// A device and its PCI slot.
-#[derive(Clone, PartialEq, Eq, Debug, Drop)]
+#[derive(Clone, PartialEq, Eq, Drop)]
 pub struct DeviceInfo {
     pub slot: u8,
     pub id: Text,
 }
 
 /// A zone in effect, with the bytes that are plugged and the bytes that are asked for.
-#[derive(Clone, PartialEq, Eq, Debug, Drop)]
+#[derive(Clone, PartialEq, Eq, Drop)]
 pub struct ZoneInfo {
     pub id: Text,
     pub plugged_size: u64,
@@ -30,7 +30,7 @@ pub struct ZoneInfo {
 }
 
 /// The state that is shown. While a pause, shutdown or delete is under way it is `Running`.
-#[derive(Clone, Copy, PartialEq, Eq, Debug)]
+#[derive(Clone, Copy, PartialEq, Eq)]
 pub enum ShownState {
     Created,
     Running,

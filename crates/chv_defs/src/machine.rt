@@ -2,7 +2,7 @@
 use crate::{Checked, Goal, Row};
 
 /// The control state: how far the machine's life is, its configuration, and the sessions that have ended.
-#[derive(PartialEq, Eq, Debug, Drop)]
+#[derive(Drop)]
 pub struct Machine {
     pub life: Life,
     pub config: Option<Checked>,
@@ -13,14 +13,14 @@ pub struct Machine {
 }
 
 /// A zone's region of guest addresses for memory that is plugged: of `size` 0 bytes where the zone does not grow.
-#[derive(Clone, Copy, PartialEq, Eq, Debug)]
+#[derive(Clone, Copy, PartialEq, Eq)]
 pub struct Region {
     pub addr: u64,
     pub size: u64,
 }
 
 /// How far a machine's life is.
-#[derive(Clone, Copy, PartialEq, Eq, Debug)]
+#[derive(Clone, Copy, PartialEq, Eq)]
 pub enum Life {
     /// There is no machine.
     None,

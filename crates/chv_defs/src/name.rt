@@ -14,7 +14,7 @@ use std::marker::Model;
 
 /// A name: 1 to 64 bytes, each an ASCII letter, a digit, `.`, `_` or `-`, the first not `.`.
 /// So a name is a file's name in one folder. Contracts see it as the list of its bytes.
-#[derive(Drop, Debug)]
+#[derive(Drop)]
 pub struct Name {
     text: Text,
 }

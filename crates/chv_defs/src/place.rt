@@ -1,7 +1,7 @@
 // In what a stretch of guest addresses lies.
 
 /// The place of a stretch of guest addresses. Offsets are in bytes.
-#[derive(Clone, Copy, PartialEq, Eq, Debug)]
+#[derive(Clone, Copy, PartialEq, Eq)]
 pub enum Place {
     /// All bytes lie in one block of 2 MiB of a zone; `offset` is the first one's in it.
     Ram { zone: u8, block: u32, offset: u32 },

@@ -2,7 +2,7 @@
 use crate::{Bytes, Rule, Text};
 
 /// A request of a control connection: an HTTP/1.0 or HTTP/1.1 head, and its body (RFC 9112).
-#[derive(PartialEq, Eq, Debug, Drop)]
+#[derive(PartialEq, Eq, Drop)]
 pub struct Request {
     /// The method is `PUT`.
     pub put: bool,
@@ -17,7 +17,7 @@ pub struct Request {
 }
 
 /// What the rest of a stream begins with.
-#[derive(PartialEq, Eq, Debug, Drop)]
+#[derive(PartialEq, Eq, Drop)]
 pub enum Took {
     /// A whole request.
     Request(Request),

@@ -9,7 +9,7 @@ use std::alloc::{AllocError, Global};
 use std::marker::Model;
 
 /// A list of values that are owned. Contracts see it as a list.
-#[derive(Drop, Debug)]
+#[derive(Drop)]
 pub struct Row<T> {
     items: Vec<T>,
 }

@@ -4,7 +4,7 @@ ghost use Rattle.chv_defs.specs.Rules.{rule_name, rule_status};
 ghost use Rattle.chv_defs.specs.Reasons.{reason_name};
 
 /// The rule by which a request or a control call is refused.
-#[derive(Clone, Copy, PartialEq, Eq, Debug)]
+#[derive(Clone, Copy, PartialEq, Eq)]
 pub enum Rule {
     /// The head of a request is no HTTP head.
     BadHead,
@@ -76,7 +76,7 @@ pub enum Rule {
 }
 
 /// Why a line of a script, a scenario or a trace is refused.
-#[derive(Clone, Copy, PartialEq, Eq, Debug)]
+#[derive(Clone, Copy, PartialEq, Eq)]
 pub enum Reason {
     UnknownWord,
     FieldCount,

@@ -2,21 +2,21 @@
 use crate::{Bytes, Name, Row, Text};
 
 /// A disk that a scenario makes, in sectors of 512 bytes. It begins with zeros.
-#[derive(PartialEq, Eq, Debug, Drop)]
+#[derive(Drop)]
 pub struct MadeDisk {
     pub name: Name,
     pub sectors: u64,
 }
 
 /// A disk that stands by, in sectors of 512 bytes.
-#[derive(PartialEq, Eq, Debug, Drop)]
+#[derive(Drop)]
 pub struct OnShelf {
     pub name: Name,
     pub sectors: u64,
 }
 
 /// The script of a vCPU, and how many instructions it may execute.
-#[derive(PartialEq, Eq, Debug, Drop)]
+#[derive(Drop)]
 pub struct VcpuSection {
     pub vcpu: u8,
     pub fuel: u64,
@@ -24,13 +24,13 @@ pub struct VcpuSection {
 }
 
 /// A script: one instruction a line.
-#[derive(PartialEq, Eq, Debug, Drop)]
+#[derive(Drop)]
 pub struct Script {
     pub lines: Row<Line>,
 }
 
 /// An instruction. Registers are numbers from 0 to 15; widths are in bytes.
-#[derive(PartialEq, Eq, Debug, Drop)]
+#[derive(Drop)]
 pub enum Line {
     /// A label.
     At(Text),
@@ -93,7 +93,7 @@ pub enum Line {
 }
 
 /// An operation on registers, modulo 2^64.
-#[derive(Clone, Copy, PartialEq, Eq, Debug)]
+#[derive(Clone, Copy)]
 pub enum MathOp {
     Add,
     Sub,
@@ -103,7 +103,7 @@ pub enum MathOp {
 }
 
 /// A scenario: disks, scripts, the requests of each session, and the steps that the schedule makes first.
-#[derive(PartialEq, Eq, Debug, Drop)]
+#[derive(Drop)]
 pub struct Scene {
     pub disks: Row<MadeDisk>,
     pub vcpus: Row<VcpuSection>,
@@ -112,7 +112,7 @@ pub struct Scene {
 }
 
 /// A request of a session: by the route's name, or the bytes of the stream themselves.
-#[derive(PartialEq, Eq, Debug, Drop)]
+#[derive(PartialEq, Eq, Drop)]
 pub enum Asked {
     Get(Text),
     Put { name: Text, body: Option<Bytes> },
@@ -120,7 +120,7 @@ pub enum Asked {
 }
 
 /// A step of the schedule: the next request of a session, a slice of a vCPU, or a queue slice.
-#[derive(Clone, Copy, PartialEq, Eq, Debug)]
+#[derive(Clone, Copy)]
 pub enum OrderStep {
     Session(u64),
     Vcpu(u64),

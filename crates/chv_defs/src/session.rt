@@ -2,7 +2,7 @@
 use crate::Bytes;
 
 /// How a session ends.
-#[derive(Clone, Copy, PartialEq, Eq, Debug)]
+#[derive(Clone, Copy, PartialEq, Eq)]
 pub enum SessionEnd {
     /// The stream ended at a request's edge.
     Ended,
@@ -21,7 +21,7 @@ pub enum SessionEnd {
 }
 
 /// The bytes that a session took, the replies that were put, and how it ended.
-#[derive(PartialEq, Eq, Debug, Drop)]
+#[derive(Drop)]
 pub struct SessionLog {
     pub asked: Bytes,
     pub replied: Bytes,

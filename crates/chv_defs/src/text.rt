@@ -11,7 +11,7 @@ use std::hash::{Hash, Hasher};
 use std::marker::Model;
 
 /// A text in UTF-8. Contracts see it as the list of its bytes.
-#[derive(Drop, Debug)]
+#[derive(Drop)]
 pub struct Text {
     text: String,
 }

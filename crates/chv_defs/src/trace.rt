@@ -3,7 +3,7 @@ use crate::{BankEntry, ControlEntry, MadeDisk, Row, SessionLog, VcpuSection};
 
 /// A run: the disks and scripts of its scenario, the history of the control book and of each bank that
 /// has entries, zones and banks ascending, and what each session took and put.
-#[derive(PartialEq, Eq, Debug, Drop)]
+#[derive(Drop)]
 pub struct Trace {
     pub disks: Row<MadeDisk>,
     pub vcpus: Row<VcpuSection>,
@@ -13,7 +13,7 @@ pub struct Trace {
 }
 
 /// The history of one bank.
-#[derive(PartialEq, Eq, Debug, Drop)]
+#[derive(Drop)]
 pub struct BankTrace {
     pub zone: u8,
     pub bank: u8,
@@ -21,7 +21,7 @@ pub struct BankTrace {
 }
 
 /// The log of one session.
-#[derive(PartialEq, Eq, Debug, Drop)]
+#[derive(Drop)]
 pub struct SessionTrace {
     /// From 1 on.
     pub session: u8,

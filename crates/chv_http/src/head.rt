@@ -13,7 +13,7 @@ use std::alloc::{AllocError, Global};
 const MOST_FIELDS: usize = 32;
 
 /// What a head says, and where its target stands.
-#[derive(Clone, Copy, Debug)]
+#[derive(Clone, Copy)]
 pub struct Head {
     /// The bytes of the head.
     pub len: usize,

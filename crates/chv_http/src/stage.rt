@@ -10,7 +10,7 @@ use chv_defs::Rule;
 const LONGEST_HEAD: usize = 8_192;
 
 /// What is known of the rest of a stream.
-#[derive(Clone, Copy, Debug)]
+#[derive(Clone, Copy)]
 pub enum Stage {
     /// No front ends in the first `looked` bytes, and the first `text` bytes are CR and LF.
     Front { text: usize, looked: usize },

@@ -11,7 +11,7 @@ fn take_all(parser: &mut Parser, taken: &mut String) -> Result<bool, AllocError>
         match parser.take()? {
             Took::NotYet => return Ok(true),
             Took::Bad(rule) => {
-                write!(taken, "{rule:?}")?;
+                taken.push_str(rule.name())?;
                 return Ok(false);
             }
             Took::Request(request) => {
@@ -145,19 +145,16 @@ fn streams(rt: HostRuntime) -> Result<(), Fail> {
         ),
     ];
     for (stream, want) in table {
-        assert_eq!(rt;
-            requests(rt.alloc(), stream, 1)?.as_str(),
-            want,
+        assert!(rt;
+            requests(rt.alloc(), stream, 1)?.as_str() == want,
             "byte by byte: {want}"
         );
-        assert_eq!(rt;
-            requests(rt.alloc(), stream, 3)?.as_str(),
-            want,
+        assert!(rt;
+            requests(rt.alloc(), stream, 3)?.as_str() == want,
             "in threes: {want}"
         );
-        assert_eq!(rt;
-            requests(rt.alloc(), stream, 4096)?.as_str(),
-            want,
+        assert!(rt;
+            requests(rt.alloc(), stream, 4096)?.as_str() == want,
             "whole: {want}"
         );
     }
@@ -200,14 +197,12 @@ fn limits(rt: HostRuntime) -> Result<(), Fail> {
     ];
     for (first, part, times, last, want) in table {
         let stream = repeated(rt.alloc(), first, part, times, last)?;
-        assert_eq!(rt;
-            requests(rt.alloc(), &stream, 1)?.as_str(),
-            want,
+        assert!(rt;
+            requests(rt.alloc(), &stream, 1)?.as_str() == want,
             "byte by byte: {want}"
         );
-        assert_eq!(rt;
-            requests(rt.alloc(), &stream, 100_000)?.as_str(),
-            want,
+        assert!(rt;
+            requests(rt.alloc(), &stream, 100_000)?.as_str() == want,
             "whole: {want}"
         );
     }
@@ -215,15 +210,13 @@ fn limits(rt: HostRuntime) -> Result<(), Fail> {
     for (length, want) in [(8_192, "GET /a 0; "), (8_193, "BadHead")] {
         let fill: usize = length - 24;
         let stream = repeated(rt.alloc(), &field_line, b"y", fill, b"\r\n\r\n")?;
-        assert_eq!(rt; stream.len(), length);
-        assert_eq!(rt;
-            requests(rt.alloc(), &stream, 1)?.as_str(),
-            want,
+        assert!(rt; stream.len() == length);
+        assert!(rt;
+            requests(rt.alloc(), &stream, 1)?.as_str() == want,
             "of {length} bytes"
         );
-        assert_eq!(rt;
-            requests(rt.alloc(), &stream, 100_000)?.as_str(),
-            want,
+        assert!(rt;
+            requests(rt.alloc(), &stream, 100_000)?.as_str() == want,
             "of {length} bytes"
         );
     }
@@ -235,7 +228,7 @@ fn refused_for_good(rt: HostRuntime) -> Result<(), Fail> {
     let mut parser = Parser::new(rt.alloc())?;
     parser.feed(b"PUT /a HTTP/1.1\r\nContent-Length: 1x\r\n\r\n")?;
     for _ in 0..3 {
-        assert_eq!(rt; parser.take()?, Took::Bad(chv_defs::Rule::BadLength));
+        assert!(rt; parser.take()? == Took::Bad(chv_defs::Rule::BadLength));
         parser.feed(b"GET /b HTTP/1.1\r\n\r\n")?;
     }
     Ok(())
@@ -247,24 +240,18 @@ fn replies(rt: HostRuntime) -> Result<(), Fail> {
     let refused =
         b"HTTP/1.1 404 Not Found\r\nContent-Type: application/json\r\nContent-Length: 21\r\n\r\n{\"rule\":\"NotCreated\"}";
     let reply = reply_bytes(rt.alloc(), 404, Some(&body), false)?;
-    assert_eq!(rt; reply.as_slice(), refused.as_slice());
+    assert!(rt; reply.as_slice() == refused.as_slice());
     let empty: &[u8] = b"HTTP/1.1 204 No Content\r\n\r\n";
-    assert_eq!(rt;
-        reply_bytes(rt.alloc(), 204, None, false)?.as_slice(),
-        empty
-    );
+    assert!(rt; reply_bytes(rt.alloc(), 204, None, false)?.as_slice() == empty);
     let last: &[u8] = b"HTTP/1.1 204 No Content\r\nConnection: close\r\n\r\n";
-    assert_eq!(rt; reply_bytes(rt.alloc(), 204, None, true)?.as_slice(), last);
+    assert!(rt; reply_bytes(rt.alloc(), 204, None, true)?.as_slice() == last);
     let lines: [(u16, &[u8]); 3] = [
         (200, b"HTTP/1.1 200 OK\r\n\r\n"),
         (400, b"HTTP/1.1 400 Bad Request\r\n\r\n"),
         (500, b"HTTP/1.1 500 Internal Server Error\r\n\r\n"),
     ];
     for (status, want) in lines {
-        assert_eq!(rt;
-            reply_bytes(rt.alloc(), status, None, false)?.as_slice(),
-            want
-        );
+        assert!(rt; reply_bytes(rt.alloc(), status, None, false)?.as_slice() == want);
     }
     Ok(())
 }

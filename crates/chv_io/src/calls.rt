@@ -9,7 +9,7 @@ use std::marker::Model;
 
 /// Which calls of an object in memory fail, how many calls it has had, and how many of them failed.
 /// Contracts see it as the record `Calls` of the definitions.
-#[derive(Drop, Debug)]
+#[derive(Drop)]
 pub struct Calls {
     listed: Row<u64>,
     made: u64,

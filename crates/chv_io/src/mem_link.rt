@@ -16,7 +16,7 @@ use std::marker::Model;
 /// A connection in memory, which tells all. A read gives at most one piece. The listed ones of its reads and writes
 /// fail, and writes that would pass its room, and no others; its two counts of faults are one count of both. A failing
 /// call gives and puts nothing.
-#[derive(Drop, Debug)]
+#[derive(Drop)]
 pub struct MemLink {
     incoming: Bytes,
     taken: usize,

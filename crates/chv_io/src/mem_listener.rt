@@ -10,7 +10,7 @@ use std::marker::Model;
 
 /// A listener in memory, which gives connections in memory in their order. The listed ones of its calls `listen` and
 /// `accept` fail, and an `accept` where no connection is left, and no others. A failing call gives no connection away.
-#[derive(Drop, Debug)]
+#[derive(Drop)]
 pub struct MemListener {
     links: Vec<MemLink>,
     port: Option<u16>,

@@ -11,7 +11,7 @@ use std::marker::Model;
 
 /// A sink into memory, which tells what was put. Its listed calls fail, and those that would pass its room, and no
 /// others. A failing call puts nothing.
-#[derive(Drop, Debug)]
+#[derive(Drop)]
 pub struct MemSink {
     bytes: Vec<u8>,
     room: usize,

@@ -10,7 +10,7 @@ use chv_defs::{Bytes, Row};
 use std::marker::Model;
 
 /// A source over bytes in memory, which tells what is left. Its listed calls fail, and no others.
-#[derive(Drop, Debug)]
+#[derive(Drop)]
 pub struct MemSource {
     bytes: Bytes,
     taken: usize,

@@ -6,7 +6,7 @@ use chv_defs::Rule;
 use std::alloc::AllocError;
 
 /// Why nothing was read.
-#[derive(Clone, Copy, PartialEq, Eq, Debug)]
+#[derive(Clone, Copy, PartialEq, Eq)]
 pub(crate) enum Refused {
     /// Want of memory.
     Memory,

@@ -20,7 +20,7 @@ fn reads_numbers(rt: HostRuntime) -> Result<(), Fail> {
         ("0x1", None),
     ];
     for (text, expected) in decimal {
-        assert_eq!(rt; read_dec(text.as_bytes()), expected, "at {text}");
+        assert!(rt; read_dec(text.as_bytes()) == expected, "at {text}");
     }
     let hexadecimal = [
         ("0x0", Some(0)),
@@ -38,7 +38,7 @@ fn reads_numbers(rt: HostRuntime) -> Result<(), Fail> {
         ("0xg", None),
     ];
     for (text, expected) in hexadecimal {
-        assert_eq!(rt; read_hex(text.as_bytes()), expected, "at {text}");
+        assert!(rt; read_hex(text.as_bytes()) == expected, "at {text}");
     }
     Ok(())
 }
@@ -47,9 +47,9 @@ fn reads_numbers(rt: HostRuntime) -> Result<(), Fail> {
 fn writes_and_reads_bytes(rt: HostRuntime) -> Result<(), Fail> {
     let alloc = rt.alloc();
     let text = hex_of(alloc, b"GET /\r\n\xff\x00")?;
-    assert_eq!(rt; text.as_str(), "474554202f0d0aff00");
+    assert!(rt; text.as_str() == "474554202f0d0aff00");
     let bytes = bytes_of_hex(alloc, text.as_bytes())?.ok_or("refused")?;
-    assert_eq!(rt; bytes.as_slice(), b"GET /\r\n\xff\x00".as_slice());
+    assert!(rt; bytes.as_slice() == b"GET /\r\n\xff\x00".as_slice());
     for text in ["", "0", "abc", "AB", "0x", "zz", "4 "] {
         assert!(rt;
             bytes_of_hex(alloc, text.as_bytes())?.is_none(),
@@ -61,15 +61,12 @@ fn writes_and_reads_bytes(rt: HostRuntime) -> Result<(), Fail> {
     put_le(&mut out, 0x1af4, 2)?;
     put_le(&mut out, 0xcf8, 4)?;
     put_le(&mut out, 0x0102030405060708, 8)?;
-    assert_eq!(rt;
-        hex_of(alloc, out.as_slice())?.as_str(),
-        "abf41af80c00000807060504030201"
-    );
-    assert_eq!(rt; get_le(out.as_slice(), 1, 2), Some(0x1af4));
-    assert_eq!(rt; get_le(out.as_slice(), 7, 8), Some(0x0102030405060708));
-    assert_eq!(rt; get_le(out.as_slice(), 8, 8), None);
-    assert_eq!(rt; get_le(out.as_slice(), 0, 3), None);
-    assert_eq!(rt; get_le(out.as_slice(), usize::MAX, 1), None);
-    assert_eq!(rt; get_le(out.as_slice(), 15, 0), None);
+    assert!(rt; hex_of(alloc, out.as_slice())?.as_str() == "abf41af80c00000807060504030201");
+    assert!(rt; get_le(out.as_slice(), 1, 2) == Some(0x1af4));
+    assert!(rt; get_le(out.as_slice(), 7, 8) == Some(0x0102030405060708));
+    assert!(rt; get_le(out.as_slice(), 8, 8) == None);
+    assert!(rt; get_le(out.as_slice(), 0, 3) == None);
+    assert!(rt; get_le(out.as_slice(), usize::MAX, 1) == None);
+    assert!(rt; get_le(out.as_slice(), 15, 0) == None);
     Ok(())
 }

@@ -11,7 +11,7 @@ use std::alloc::{AllocError, Global};
 
 /// The first line of a scenario that fails, counted from 1, and why. Where a section has no end, it is the line behind
 /// the last one.
-#[derive(Clone, Copy, PartialEq, Eq, Debug)]
+#[derive(Clone, Copy, PartialEq, Eq)]
 pub struct SceneFault {
     pub line: u32,
     pub reason: Reason,

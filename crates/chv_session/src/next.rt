@@ -2,7 +2,7 @@
 use chv_defs::SessionEnd;
 
 /// What one step of a session came to.
-#[derive(Clone, Copy, PartialEq, Eq, Debug)]
+#[derive(Clone, Copy, PartialEq, Eq)]
 pub enum Next {
     /// A request was answered, or bytes that a rule refuses. The session is not at its end.
     Answered,

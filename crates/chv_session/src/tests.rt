@@ -191,7 +191,7 @@ fn replies(rt: HostRuntime) -> Result<(), Fail> {
     for (stream, expected, by_bytes) in REPLIES {
         let left = play(alloc, stream, by_bytes, 0, 9, 9)?;
         assert!(rt; left.put.as_slice() == expected);
-        assert_eq!(rt; left.calls, 4);
+        assert!(rt; left.calls == 4);
     }
     Ok(())
 }
@@ -241,9 +241,9 @@ fn ends(rt: HostRuntime) -> Result<(), Fail> {
     for (stream, fail, stops_behind, turns, end, calls) in ENDS {
         let left = play(alloc, stream, false, fail, stops_behind, turns)?;
         assert!(rt; left.log.end == end);
-        assert_eq!(rt; left.calls, calls);
+        assert!(rt; left.calls == calls);
         assert!(rt; left.put.as_slice() == left.log.replied.as_slice());
-        assert_eq!(rt; left.is_closed, turns > 1);
+        assert!(rt; left.is_closed == turns > 1);
     }
     Ok(())
 }

@@ -5,7 +5,7 @@ use crate::MemDisk;
 use chv_io::{Disk, Failed};
 
 /// A disk that was handed in, or one that was made in memory. It is the disk that it holds.
-#[derive(Drop, Debug)]
+#[derive(Drop)]
 pub enum AnyDisk<D> {
     /// A disk that was handed in.
     Given(D),

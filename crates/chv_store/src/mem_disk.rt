@@ -12,7 +12,7 @@ use std::marker::Model;
 
 /// A disk in memory, which tells its sectors. Its listed calls of `read`, `write` and `flush` fail, and no others. A
 /// failing call changes no sector.
-#[derive(Drop, Debug)]
+#[derive(Drop)]
 pub struct MemDisk {
     sectors: Vec<[u8; 512]>,
     calls: Calls,

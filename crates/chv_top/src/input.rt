@@ -10,7 +10,7 @@ use std::alloc::Global;
 const PIECE: usize = 4096;
 
 /// Why an input was not read.
-#[derive(Clone, Copy, PartialEq, Eq, Debug)]
+#[derive(Clone, Copy, PartialEq, Eq)]
 pub enum InputError {
     Memory,
     ReadFault,

@@ -28,7 +28,7 @@ const MOST_INPUT: usize = 16_777_216;
 const INPUT_LIMIT: usize = 16_777_217;
 
 /// Why nothing is played.
-#[derive(Clone, Copy, PartialEq, Eq, Debug)]
+#[derive(Clone, Copy, PartialEq, Eq)]
 pub enum Stop {
     Memory,
     ReadFault,

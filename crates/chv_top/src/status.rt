@@ -2,7 +2,7 @@
 use chv_defs::{BookId, Name, Reason};
 
 /// How a run of the program ends.
-#[derive(Clone, Copy, PartialEq, Eq, Debug)]
+#[derive(Clone, Copy, PartialEq, Eq)]
 pub enum Status {
     /// The input was read to its end, and the work is done.
     Done,

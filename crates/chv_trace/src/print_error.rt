@@ -5,7 +5,7 @@ ghost use Rattle.chv_trace.specs.declared.print_error.PrintError.TheVariants as 
 use std::alloc::AllocError;
 
 /// Why a trace was not printed whole.
-#[derive(Clone, Copy, PartialEq, Eq, Debug)]
+#[derive(Clone, Copy, PartialEq, Eq)]
 pub enum PrintError {
     /// Want of memory.
     Memory,

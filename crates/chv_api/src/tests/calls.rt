@@ -49,9 +49,8 @@ fn routes_without_a_body(rt: HostRuntime) -> Result<(), Fail> {
         ("PUT", "/api/v1/vm.resume", ControlCall::Resume),
     ];
     for (method, target, expected) in table {
-        assert_eq!(rt;
-            call(alloc, method, target, "no JSON")?,
-            Ok(expected),
+        assert!(rt;
+            call(alloc, method, target, "no JSON")? == Ok(expected),
             "at {target}"
         );
     }
@@ -75,31 +74,29 @@ fn default_config(alloc: Global) -> VmConfig {
 #[test]
 fn routes_of_the_machine(rt: HostRuntime) -> Result<(), Fail> {
     let alloc = rt.alloc();
-    assert_eq!(rt;
-        call(alloc, "PUT", "/api/v1/vm.create", "{}")?,
-        Ok(ControlCall::Create(default_config(alloc)))
+    assert!(rt;
+        call(alloc, "PUT", "/api/v1/vm.create", "{}")?
+            == Ok(ControlCall::Create(default_config(alloc)))
     );
-    assert_eq!(rt;
+    assert!(rt;
         call(
             alloc,
             "PUT",
             "/api/v1/vm.resize",
             "{\"desired_vcpus\":3,\"desired_ram\":1073741824}"
-        )?,
-        Ok(ControlCall::Resize {
+        )? == Ok(ControlCall::Resize {
             vcpus: Some(3),
             ram: Some(1073741824),
         })
     );
     let zone = Text::of(alloc, "z0")?;
-    assert_eq!(rt;
+    assert!(rt;
         call(
             alloc,
             "PUT",
             "/api/v1/vm.resize-zone",
             "{\"id\":\"z0\",\"desired_ram\":2097152}"
-        )?,
-        Ok(ControlCall::ResizeZone { zone, ram: 2097152 })
+        )? == Ok(ControlCall::ResizeZone { zone, ram: 2097152 })
     );
     Ok(())
 }
@@ -114,14 +111,14 @@ fn routes_of_devices(rt: HostRuntime) -> Result<(), Fail> {
         queues: 1,
         queue_size: 128,
     };
-    assert_eq!(rt;
-        call(alloc, "PUT", "/api/v1/vm.add-disk", "{\"path\":\"/d\"}")?,
-        Ok(ControlCall::AddDisk(disk))
+    assert!(rt;
+        call(alloc, "PUT", "/api/v1/vm.add-disk", "{\"path\":\"/d\"}")?
+            == Ok(ControlCall::AddDisk(disk))
     );
     let id = Text::of(alloc, "d")?;
-    assert_eq!(rt;
-        call(alloc, "PUT", "/api/v1/vm.remove-device", "{\"id\":\"d\"}")?,
-        Ok(ControlCall::Remove(id))
+    assert!(rt;
+        call(alloc, "PUT", "/api/v1/vm.remove-device", "{\"id\":\"d\"}")?
+            == Ok(ControlCall::Remove(id))
     );
     Ok(())
 }
@@ -134,13 +131,13 @@ fn name(alloc: Global, text: &str) -> Result<Name, Fail> {
 fn routes_of_snapshots(rt: HostRuntime) -> Result<(), Fail> {
     let alloc = rt.alloc();
     let body = "{\"destination_url\":\"file:///vault/one\",\"source_url\":\"two/\"}";
-    assert_eq!(rt;
-        call(alloc, "PUT", "/api/v1/vm.snapshot", body)?,
-        Ok(ControlCall::Snapshot(name(alloc, "one")?))
+    assert!(rt;
+        call(alloc, "PUT", "/api/v1/vm.snapshot", body)?
+            == Ok(ControlCall::Snapshot(name(alloc, "one")?))
     );
-    assert_eq!(rt;
-        call(alloc, "PUT", "/api/v1/vm.restore", body)?,
-        Ok(ControlCall::Restore(name(alloc, "two")?))
+    assert!(rt;
+        call(alloc, "PUT", "/api/v1/vm.restore", body)?
+            == Ok(ControlCall::Restore(name(alloc, "two")?))
     );
     Ok(())
 }
@@ -166,9 +163,8 @@ fn refuses_what_is_no_route(rt: HostRuntime) -> Result<(), Fail> {
         ("PUT", "//api/v1/vm.boot"),
     ];
     for (method, target) in table {
-        assert_eq!(rt;
-            rule(alloc, method, target, "{}")?,
-            Some(Rule::NoRoute),
+        assert!(rt;
+            rule(alloc, method, target, "{}")? == Some(Rule::NoRoute),
             "at {method} {target}"
         );
     }
@@ -203,9 +199,8 @@ fn refuses_bodies(rt: HostRuntime) -> Result<(), Fail> {
         ("/api/v1/vm.restore", "{\"source_url\":1}", Rule::NotText),
     ];
     for (target, body, expected) in table {
-        assert_eq!(rt;
-            rule(alloc, "PUT", target, body)?,
-            Some(expected),
+        assert!(rt;
+            rule(alloc, "PUT", target, body)? == Some(expected),
             "at {target} {body}"
         );
     }
@@ -235,9 +230,8 @@ fn names_of_snapshots(rt: HostRuntime) -> Result<(), Fail> {
     ];
     for (url, expected) in table {
         let body = format!(in alloc; "{{\"destination_url\":\"{url}\"}}")?;
-        assert_eq!(rt;
-            rule(alloc, "PUT", "/api/v1/vm.snapshot", &body)?,
-            expected,
+        assert!(rt;
+            rule(alloc, "PUT", "/api/v1/vm.snapshot", &body)? == expected,
             "at {url}"
         );
     }

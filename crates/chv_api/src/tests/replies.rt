@@ -39,10 +39,10 @@ fn replies_without_a_value(rt: HostRuntime) -> Result<(), Fail> {
         ),
     ];
     for (call, reply, last, want) in table {
-        assert_eq!(rt;
-            reply_of(alloc, &reply, &call, last)?.as_slice(),
-            want,
-            "at {call:?} {reply:?}"
+        assert!(rt;
+            reply_of(alloc, &reply, &call, last)?.as_slice() == want,
+            "at {:?}",
+            want
         );
     }
     Ok(())
@@ -66,14 +66,10 @@ fn replies_to_an_added_disk(rt: HostRuntime) -> Result<(), Fail> {
     let booted: &[u8] =
         b"HTTP/1.1 200 OK\r\nContent-Type: application/json\r\nContent-Length: 31\r\n\r\n{\"bdf\":\"0000:00:05.0\",\"id\":\"d\"}";
     let created: &[u8] = b"HTTP/1.1 204 No Content\r\n\r\n";
-    assert_eq!(rt;
-        reply_of(alloc, &ControlReply::Added { id, slot: 5 }, &call, false)?.as_slice(),
-        booted
+    assert!(rt;
+        reply_of(alloc, &ControlReply::Added { id, slot: 5 }, &call, false)?.as_slice() == booted
     );
-    assert_eq!(rt;
-        reply_of(alloc, &ControlReply::Done, &call, false)?.as_slice(),
-        created
-    );
+    assert!(rt; reply_of(alloc, &ControlReply::Done, &call, false)?.as_slice() == created);
     Ok(())
 }
 
@@ -93,10 +89,7 @@ fn replies_with_counters(rt: HostRuntime) -> Result<(), Fail> {
     let want: &[u8] =
         b"HTTP/1.1 200 OK\r\nContent-Type: application/json\r\nContent-Length: 70\r\n\r\n{\"d\":{\"read_bytes\":1024,\"read_ops\":2,\"write_bytes\":512,\"write_ops\":1}}";
     let reply = ControlReply::Counted(counts);
-    assert_eq!(rt;
-        reply_of(alloc, &reply, &ControlCall::Counters, false)?.as_slice(),
-        want
-    );
+    assert!(rt; reply_of(alloc, &reply, &ControlCall::Counters, false)?.as_slice() == want);
     Ok(())
 }
 
@@ -121,10 +114,10 @@ fn refusals(rt: HostRuntime) -> Result<(), Fail> {
         ),
     ];
     for (rule, last, want) in table {
-        assert_eq!(rt;
-            refusal_of(alloc, rule, last)?.as_slice(),
-            want,
-            "at {rule:?}"
+        assert!(rt;
+            refusal_of(alloc, rule, last)?.as_slice() == want,
+            "at {}",
+            rule.name()
         );
     }
     Ok(())

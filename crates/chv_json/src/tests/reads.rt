@@ -41,7 +41,7 @@ fn refuses_what_is_no_json(rt: HostRuntime) -> Result<(), Fail> {
         b"{\"a\":\"\xed\xa0\x80\"}",
     ];
     for body in bodies {
-        assert_eq!(rt; rule(alloc, body)?, Some(Rule::NotJson), "at {body:?}");
+        assert!(rt; rule(alloc, body)? == Some(Rule::NotJson), "at {body:?}");
     }
     Ok(())
 }
@@ -62,15 +62,9 @@ fn nested(alloc: Global, levels: usize) -> Result<String, AllocError> {
 #[test]
 fn reads_127_levels(rt: HostRuntime) -> Result<(), Fail> {
     let alloc = rt.alloc();
-    assert_eq!(rt; rule(alloc, nested(alloc, 127)?.as_bytes())?, None);
-    assert_eq!(rt;
-        rule(alloc, nested(alloc, 128)?.as_bytes())?,
-        Some(Rule::NotJson)
-    );
-    assert_eq!(rt;
-        rule(alloc, nested(alloc, 30000)?.as_bytes())?,
-        Some(Rule::NotJson)
-    );
+    assert!(rt; rule(alloc, nested(alloc, 127)?.as_bytes())? == None);
+    assert!(rt; rule(alloc, nested(alloc, 128)?.as_bytes())? == Some(Rule::NotJson));
+    assert!(rt; rule(alloc, nested(alloc, 30000)?.as_bytes())? == Some(Rule::NotJson));
     Ok(())
 }
 
@@ -128,7 +122,10 @@ fn refuses_the_first_wrong_field(rt: HostRuntime) -> Result<(), Fail> {
         ),
     ];
     for (body, expected) in bodies {
-        assert_eq!(rt; rule(alloc, body.as_bytes())?, Some(expected), "at {body}");
+        assert!(rt;
+            rule(alloc, body.as_bytes())? == Some(expected),
+            "at {body}"
+        );
     }
     Ok(())
 }
@@ -140,32 +137,26 @@ fn reads_configurations(rt: HostRuntime) -> Result<(), Fail> {
         alloc,
         " {\"cpus\":{\"boot_vcpus\":2,\"b\\u006fot_vcpus\":18446744073709551615},\"disks\":null,\"memory\":{\"size\":null,\"zones\":[]}}\r\n",
     )?;
-    assert_eq!(rt; (found.cpus.boot, found.cpus.max), (u64::MAX, u64::MAX));
-    assert_eq!(rt; found.memory.size, 536870912);
+    assert!(rt; (found.cpus.boot, found.cpus.max) == (u64::MAX, u64::MAX));
+    assert!(rt; found.memory.size == 536870912);
     let found = config(
         alloc,
         "{\"cpus\":{\"boot_vcpus\":4,\"max_vcpus\":4},\"payload\":{\"kernel\":\"/opt/clh/vmlinux\",\"cmdline\":\"console=hvc0\"},\"disks\":[{\"path\":\"/opt/clh/images/focal.raw\"}],\"rng\":{\"src\":\"/dev/urandom\"},\"net\":[{\"ip\":\"192.168.10.10\"}]}",
     )?;
-    assert_eq!(rt;
-        config_text(alloc, &found)?.as_str(),
-        "{\"cpus\":{\"boot_vcpus\":4,\"max_vcpus\":4},\"disks\":[{\"num_queues\":1,\"path\":\"/opt/clh/images/focal.raw\",\"queue_size\":128,\"readonly\":false}],\"memory\":{\"hotplug_method\":\"Acpi\",\"hotplug_size\":0,\"hotplugged_size\":0,\"size\":536870912,\"zones\":[]}}"
+    assert!(rt;
+        config_text(alloc, &found)?.as_str()
+            == "{\"cpus\":{\"boot_vcpus\":4,\"max_vcpus\":4},\"disks\":[{\"num_queues\":1,\"path\":\"/opt/clh/images/focal.raw\",\"queue_size\":128,\"readonly\":false}],\"memory\":{\"hotplug_method\":\"Acpi\",\"hotplug_size\":0,\"hotplugged_size\":0,\"size\":536870912,\"zones\":[]}}"
     );
     let found = config(
         alloc,
         "{\"memory\":{\"hotplug_method\":\"virtio-mem\",\"zones\":[{\"id\":\"\\u00e9\\n\\ud83d\\ude00\",\"size\":2097152}]}}",
     )?;
-    assert_eq!(rt;
-        (found.cpus.boot, found.cpus.max, found.memory.size),
-        (1, 1, 0)
-    );
-    assert_eq!(rt; found.memory.way, Hotplug::VirtioMem);
-    assert_eq!(rt; found.memory.zones.len(), 1);
-    assert_eq!(rt;
-        found.memory.zones.as_slice()[0].id.as_str(),
-        "\u{e9}\n\u{1f600}"
-    );
+    assert!(rt; (found.cpus.boot, found.cpus.max, found.memory.size) == (1, 1, 0));
+    assert!(rt; found.memory.way == Hotplug::VirtioMem);
+    assert!(rt; found.memory.zones.len() == 1);
+    assert!(rt; found.memory.zones.as_slice()[0].id.as_str() == "\u{e9}\n\u{1f600}");
     let again = config(alloc, config_text(alloc, &found)?.as_str())?;
-    assert_eq!(rt; again, found);
+    assert!(rt; again == found);
     Ok(())
 }
 
@@ -181,43 +172,26 @@ fn reads_the_other_bodies(rt: HostRuntime) -> Result<(), Fail> {
     };
     let body =
         b"{\"path\":\"/d\",\"id\":\"x\",\"readonly\":true,\"num_queues\":2,\"queue_size\":64}";
-    assert_eq!(rt; disk_of(alloc, body)?, Ok(disk));
-    assert_eq!(rt; disk_of(alloc, b"{\"id\":\"x\"}")?, Err(Rule::Missing));
-    assert_eq!(rt; resize_of(alloc, b"{}")?, Ok((None, None)));
-    assert_eq!(rt;
-        resize_of(alloc, b"{\"desired_vcpus\":3,\"desired_ram\":null}")?,
-        Ok((Some(3), None))
+    assert!(rt; disk_of(alloc, body)? == Ok(disk));
+    assert!(rt; disk_of(alloc, b"{\"id\":\"x\"}")? == Err(Rule::Missing));
+    assert!(rt; resize_of(alloc, b"{}")? == Ok((None, None)));
+    assert!(rt;
+        resize_of(alloc, b"{\"desired_vcpus\":3,\"desired_ram\":null}")? == Ok((Some(3), None))
     );
-    assert_eq!(rt;
-        resize_of(alloc, b"{\"desired_ram\":\"1\",\"desired_vcpus\":4}")?,
-        Err(Rule::NotWhole)
+    assert!(rt;
+        resize_of(alloc, b"{\"desired_ram\":\"1\",\"desired_vcpus\":4}")? == Err(Rule::NotWhole)
     );
-    assert_eq!(rt; resize_of(alloc, b"3")?, Err(Rule::NotObject));
+    assert!(rt; resize_of(alloc, b"3")? == Err(Rule::NotObject));
     let zone = (Text::of(alloc, "z0")?, 1075838976);
-    assert_eq!(rt;
-        zone_of(alloc, b"{\"id\":\"z0\",\"desired_ram\":1075838976}")?,
-        Ok(zone)
-    );
-    assert_eq!(rt;
-        zone_of(alloc, b"{\"desired_ram\":\"1\"}")?,
-        Err(Rule::Missing)
-    );
-    assert_eq!(rt; zone_of(alloc, b"{\"id\":7}")?, Err(Rule::NotText));
+    assert!(rt; zone_of(alloc, b"{\"id\":\"z0\",\"desired_ram\":1075838976}")? == Ok(zone));
+    assert!(rt; zone_of(alloc, b"{\"desired_ram\":\"1\"}")? == Err(Rule::Missing));
+    assert!(rt; zone_of(alloc, b"{\"id\":7}")? == Err(Rule::NotText));
     let url = Text::of(alloc, "file:///vault/a")?;
     let key = "destination_url";
-    assert_eq!(rt;
-        text_of(alloc, b"{\"destination_url\":\"file:///vault/a\"}", key)?,
-        Ok(url)
-    );
-    assert_eq!(rt;
-        text_of(alloc, b"{\"destination_url\":null}", key)?,
-        Err(Rule::Missing)
-    );
-    assert_eq!(rt;
-        text_of(alloc, b"{\"destination_url\":false}", key)?,
-        Err(Rule::NotText)
-    );
-    assert_eq!(rt; text_of(alloc, b"[]", key)?, Err(Rule::NotObject));
-    assert_eq!(rt; text_of(alloc, b"", key)?, Err(Rule::NotJson));
+    assert!(rt; text_of(alloc, b"{\"destination_url\":\"file:///vault/a\"}", key)? == Ok(url));
+    assert!(rt; text_of(alloc, b"{\"destination_url\":null}", key)? == Err(Rule::Missing));
+    assert!(rt; text_of(alloc, b"{\"destination_url\":false}", key)? == Err(Rule::NotText));
+    assert!(rt; text_of(alloc, b"[]", key)? == Err(Rule::NotObject));
+    assert!(rt; text_of(alloc, b"", key)? == Err(Rule::NotJson));
     Ok(())
 }

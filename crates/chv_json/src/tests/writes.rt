@@ -56,9 +56,9 @@ fn created(alloc: Global, config: VmConfig) -> Result<Info, AllocError> {
 fn writes_configurations(rt: HostRuntime) -> Result<(), Fail> {
     let alloc = rt.alloc();
     let text = config_text(alloc, &plain(alloc, 1, Row::empty(alloc)))?;
-    assert_eq!(rt;
-        text.as_str(),
-        "{\"cpus\":{\"boot_vcpus\":1,\"max_vcpus\":1},\"disks\":[],\"memory\":{\"hotplug_method\":\"Acpi\",\"hotplug_size\":0,\"hotplugged_size\":0,\"size\":536870912,\"zones\":[]}}"
+    assert!(rt;
+        text.as_str()
+            == "{\"cpus\":{\"boot_vcpus\":1,\"max_vcpus\":1},\"disks\":[],\"memory\":{\"hotplug_method\":\"Acpi\",\"hotplug_size\":0,\"hotplugged_size\":0,\"size\":536870912,\"zones\":[]}}"
     );
     let mut config = plain(alloc, 1, Row::empty(alloc));
     config.memory.way = Hotplug::VirtioMem;
@@ -69,14 +69,14 @@ fn writes_configurations(rt: HostRuntime) -> Result<(), Fail> {
         hotplugged: 0,
     })?;
     let text = config_text(alloc, &config)?;
-    assert_eq!(rt;
-        text.as_str(),
-        "{\"cpus\":{\"boot_vcpus\":1,\"max_vcpus\":1},\"disks\":[],\"memory\":{\"hotplug_method\":\"VirtioMem\",\"hotplug_size\":0,\"hotplugged_size\":0,\"size\":536870912,\"zones\":[{\"hotplug_size\":18446744073709551615,\"hotplugged_size\":0,\"id\":\"a\\\"b\",\"size\":2097152}]}}"
+    assert!(rt;
+        text.as_str()
+            == "{\"cpus\":{\"boot_vcpus\":1,\"max_vcpus\":1},\"disks\":[],\"memory\":{\"hotplug_method\":\"VirtioMem\",\"hotplug_size\":0,\"hotplugged_size\":0,\"size\":536870912,\"zones\":[{\"hotplug_size\":18446744073709551615,\"hotplugged_size\":0,\"id\":\"a\\\"b\",\"size\":2097152}]}}"
     );
     let text = disk_text(alloc, &focal(alloc, None)?)?;
-    assert_eq!(rt;
-        text.as_str(),
-        "{\"num_queues\":1,\"path\":\"/opt/clh/images/focal.raw\",\"queue_size\":128,\"readonly\":false}"
+    assert!(rt;
+        text.as_str()
+            == "{\"num_queues\":1,\"path\":\"/opt/clh/images/focal.raw\",\"queue_size\":128,\"readonly\":false}"
     );
     Ok(())
 }
@@ -85,13 +85,13 @@ fn writes_configurations(rt: HostRuntime) -> Result<(), Fail> {
 fn shows_machines(rt: HostRuntime) -> Result<(), Fail> {
     let alloc = rt.alloc();
     let text = info_text(alloc, &created(alloc, plain(alloc, 1, Row::empty(alloc)))?)?;
-    assert_eq!(rt; text.as_str().len(), 294);
+    assert!(rt; text.as_str().len() == 294);
     let mut disks = Row::empty(alloc);
     disks.push(focal(alloc, Some(Text::of(alloc, "_disk0")?))?)?;
     let text = info_text(alloc, &created(alloc, plain(alloc, 4, disks))?)?;
-    assert_eq!(rt;
-        text.as_str(),
-        "{\"config\":{\"cpus\":{\"boot_vcpus\":4,\"max_vcpus\":4},\"disks\":[{\"id\":\"_disk0\",\"num_queues\":1,\"path\":\"/opt/clh/images/focal.raw\",\"queue_size\":128,\"readonly\":false}],\"memory\":{\"hotplug_method\":\"Acpi\",\"hotplug_size\":0,\"hotplugged_size\":0,\"size\":536870912,\"zones\":[]}},\"devices\":[],\"memory_actual_size\":536870912,\"state\":\"Created\",\"vcpus\":[],\"zones\":[{\"id\":\"mem0\",\"plugged_size\":0,\"requested_size\":0}]}"
+    assert!(rt;
+        text.as_str()
+            == "{\"config\":{\"cpus\":{\"boot_vcpus\":4,\"max_vcpus\":4},\"disks\":[{\"id\":\"_disk0\",\"num_queues\":1,\"path\":\"/opt/clh/images/focal.raw\",\"queue_size\":128,\"readonly\":false}],\"memory\":{\"hotplug_method\":\"Acpi\",\"hotplug_size\":0,\"hotplugged_size\":0,\"size\":536870912,\"zones\":[]}},\"devices\":[],\"memory_actual_size\":536870912,\"state\":\"Created\",\"vcpus\":[],\"zones\":[{\"id\":\"mem0\",\"plugged_size\":0,\"requested_size\":0}]}"
     );
     Ok(())
 }
@@ -103,12 +103,11 @@ fn shows_devices_and_counters(rt: HostRuntime) -> Result<(), Fail> {
         slot: 31,
         id: Text::of(alloc, "_disk30")?,
     };
-    assert_eq!(rt;
-        device_text(alloc, &device)?.as_str(),
-        "{\"bdf\":\"0000:00:1f.0\",\"id\":\"_disk30\"}"
+    assert!(rt;
+        device_text(alloc, &device)?.as_str() == "{\"bdf\":\"0000:00:1f.0\",\"id\":\"_disk30\"}"
     );
     let mut counts = Row::empty(alloc);
-    assert_eq!(rt; counters_text(alloc, &counts)?.as_str(), "{}");
+    assert!(rt; counters_text(alloc, &counts)?.as_str() == "{}");
     for (id, reads) in [("b", 1), ("a", 2)] {
         counts.push(CountOf {
             id: Text::of(alloc, id)?,
@@ -120,9 +119,9 @@ fn shows_devices_and_counters(rt: HostRuntime) -> Result<(), Fail> {
             },
         })?;
     }
-    assert_eq!(rt;
-        counters_text(alloc, &counts)?.as_str(),
-        "{\"a\":{\"read_bytes\":512,\"read_ops\":2,\"write_bytes\":1536,\"write_ops\":3},\"b\":{\"read_bytes\":512,\"read_ops\":1,\"write_bytes\":1536,\"write_ops\":3}}"
+    assert!(rt;
+        counters_text(alloc, &counts)?.as_str()
+            == "{\"a\":{\"read_bytes\":512,\"read_ops\":2,\"write_bytes\":1536,\"write_ops\":3},\"b\":{\"read_bytes\":512,\"read_ops\":1,\"write_bytes\":1536,\"write_ops\":3}}"
     );
     Ok(())
 }
