@@ -1,5 +1,5 @@
 -- What calls that were asked at the desk left there: some were entered, one after another, and nothing else changed.
-use Rattle.std.proofs.Common.{◌≡◌, ◌≢◌, ◌⊎◌, inl, inr, ℕ, ◌==◌, cond, Bool, true, false, List, [], ◌∷◌, ◌++◌, map, Option, None, Some, refl, sym, ap, subst, ◌∙◌, arith, append_assoc}
+use Rattle.std.proofs.Common.{◌≡◌, ◌≢◌, inl, inr, ℕ, ◌==◌, cond, Bool, true, false, List, [], ◌∷◌, ◌++◌, map, Option, None, Some, refl, sym, ap, subst, ◌∙◌, arith, append_assoc}
 use Rattle.std.proofs.lemmas.List.{append-nil, map-append}
 use Rattle.std.proofs.lemmas.List.Elements.{filter-append}
 use Rattle.std.proofs.lemmas.Bool.Decides.{nat_tests}
@@ -18,28 +18,29 @@ use Rattle.chv_control.specs.Control.{Controlled, entered}
 use Rattle.chv_control.specs.Shelf.{shelf_of}
 use Rattle.chv_play.specs.declared.desk.PlayDesk.{PlayDesk}
 use Rattle.chv_play.specs.declared.desk.Refused.{Refused}
-use Rattle.chv_play.specs.Desk.{entry_at, full_for, IsEntered, IsRefused, IsAskedOf}
+use Rattle.chv_play.specs.Desk.{entry_at, full_for, IsAskedOf}
 
 -- ---- a caller's calls, behind one more entry
 
+-- the calls of entries
+abbrev answers_in : List ControlEntry → List Answer
+answers_in entries = map (λ (e : ControlEntry). record { call = e.call; reply = e.reply }) entries
 
 one_more : (caller : ℕ) (history : List ControlEntry) (e : ControlEntry)
     → answers_by caller (history ++ e ∷ []) ≡ answers_by caller history ++ answers_by caller (e ∷ [])
 one_more caller history e =
-    ap (λ (es : List ControlEntry). map (λ (e : ControlEntry). record { call = e.call; reply = e.reply }) es)
-    (filter-append (λ (e : ControlEntry). e.caller == caller) history (e ∷ []))
-    ∙ map-append (λ (e : ControlEntry). record { call = e.call; reply = e.reply }) (entries_by caller history) (entries_by caller (e ∷ []))
+    ap answers_in (filter-append (λ (e : ControlEntry). e.caller == caller) history (e ∷ []))
+    ∙ map-append {B = Answer} (λ (e : ControlEntry). record { call = e.call; reply = e.reply }) (entries_by caller history) (entries_by caller (e ∷ []))
 
 pub own_entry : (caller : ℕ) (history : List ControlEntry) (c : ControlCall) (r : ControlReply)
     → answers_by caller (history ++ record { caller = caller; call = c; reply = r } ∷ [])
     ≡ answers_by caller history ++ record { call = c; reply = r } ∷ []
 own_entry caller history c r =
     one_more caller history (record { caller = caller; call = c; reply = r })
-    ∙ ap (λ (as : List Answer). answers_by caller history ++ as) (taken (caller == caller) (grind (arith, nat_tests)))
+    ∙ ap (λ (calls : List Answer). answers_by caller history ++ calls) (taken (caller == caller) (grind (arith, nat_tests)))
   where
     taken : (b : Bool) → b ≡ true
-        → map (λ (e : ControlEntry). record { call = e.call; reply = e.reply }) (cond b (record { caller = caller; call = c; reply = r } ∷ []) [])
-        ≡ record { call = c; reply = r } ∷ []
+        → answers_in (cond b (record { caller = caller; call = c; reply = r } ∷ []) []) ≡ record { call = c; reply = r } ∷ []
     taken true is = refl
     taken false is = absurd (cc is)
 
@@ -47,11 +48,10 @@ pub other_entry : (caller other : ℕ) (history : List ControlEntry) (c : Contro
     → answers_by other (history ++ record { caller = caller; call = c; reply = r } ∷ []) ≡ answers_by other history
 other_entry caller other history c r differs =
     one_more other history (record { caller = caller; call = c; reply = r })
-    ∙ ap (λ (as : List Answer). answers_by other history ++ as) (left (caller == other) (grind (arith, nat_tests, differs)))
+    ∙ ap (λ (calls : List Answer). answers_by other history ++ calls) (left (caller == other) (grind (arith, nat_tests, differs)))
     ∙ append-nil (answers_by other history)
   where
-    left : (b : Bool) → b ≡ false
-        → map (λ (e : ControlEntry). record { call = e.call; reply = e.reply }) (cond b (record { caller = caller; call = c; reply = r } ∷ []) []) ≡ []
+    left : (b : Bool) → b ≡ false → answers_in (cond b (record { caller = caller; call = c; reply = r } ∷ []) []) ≡ []
     left true is = absurd (cc is)
     left false is = refl
 
@@ -112,7 +112,7 @@ first_call {D} shelf before between after c (inl entry) leaves =
       made = a ∷ more.made;
       enters = (entry.room, refl, more.enters);
       answers = more.answers
-          ∙ ap (λ (as : List Answer). as ++ more.made) (own_entry before.caller before.control.history c (reply_to shelf before.control.machine c))
+          ∙ ap (λ (calls : List Answer). calls ++ more.made) (own_entry before.caller before.control.history c (reply_to shelf before.control.machine c))
           ∙ append_assoc (answers_by before.caller before.control.history) (a ∷ []) more.made;
       tells = λ none. absurd (cc none);
     }

@@ -1,5 +1,5 @@
 -- What comes of a turn at the control value is what the schedule says.
-use Rattle.std.proofs.Common.{◌≡◌, ◌≢◌, ◌≤◌, ◌⊎◌, inl, inr, ℕ, ◌==◌, ◌+◌, cond, Bool, true, false, List, [], ◌∷◌, ◌++◌, Option, None, Some, Result, Ok, Err, refl, sym, ap, subst, ◌∙◌, arith}
+use Rattle.std.proofs.Common.{◌≡◌, ◌≢◌, ◌≤◌, inl, inr, ℕ, ◌==◌, cond, Bool, true, false, List, [], ◌∷◌, ◌++◌, Option, None, Some, Ok, Err, refl, sym, ap, subst, ◌∙◌, arith}
 use Rattle.std.proofs.lemmas.List.{append-nil, append_cancel_left}
 use Rattle.std.proofs.lemmas.List.Elements.{filter-append}
 use Rattle.std.proofs.lemmas.Grind.{flat_map-append}
@@ -12,10 +12,9 @@ use Rattle.chv_defs.specs.declared.control.ControlCall.TheVariants as call
 use Rattle.chv_defs.specs.declared.control.ControlReply.{ControlReply}
 use Rattle.chv_defs.specs.declared.control.ControlReply.TheVariants as reply
 use Rattle.chv_defs.specs.ApiStep.{reply_to}
-use Rattle.chv_defs.specs.Desks.{Answer, IsOnlyAsked, is_holding}
+use Rattle.chv_defs.specs.Desks.{Answer, IsOnlyAsked}
 use Rattle.chv_defs.specs.LegalControl.{answers_by}
 use Rattle.chv_defs.specs.Routes.{reply_to_call}
-use Rattle.chv_defs.specs.SessionBytes.{Holds, Makes}
 use Rattle.chv_defs.specs.Schedule.{Turn, Answers, Leaves, with_reply, with_entry, after_turn, replies_to}
 use Rattle.chv_defs.specs.Schedule as schedule
 use Rattle.chv_session.specs.declared.next.Next.{Next}
@@ -23,7 +22,7 @@ use Rattle.chv_session.specs.declared.state.State.TheVariants as state
 use Rattle.chv_session.specs.Moment.{moment}
 use Rattle.chv_session.specs.Step.{ComesTo, is_over}
 use Rattle.chv_session.specs.Taking.{TakesPieces}
-use Rattle.chv_session.specs.Wire.{RunsDry}
+use Rattle.chv_session.specs.Wire.{Drains}
 use Rattle.chv_store.specs.declared.any_disk.AnyDisk.{AnyDisk}
 use Rattle.chv_control.specs.Control.{Controlled}
 use Rattle.chv_control.specs.Shelf.{shelf_of}
@@ -32,11 +31,11 @@ use Rattle.chv_play.specs.declared.desk.Refused.{Refused}
 use Rattle.chv_play.specs.declared.seat.Seat.{Seat}
 use Rattle.chv_play.specs.Ahead.{Does}
 use Rattle.chv_play.specs.Desk.{call_of, full_of, full_for}
-use Rattle.chv_play.specs.Order.{IsOrdered, played}
-use Rattle.chv_play.specs.Round.{stage_at, TakesTurn, FindsFull, TurnsOut}
-use Rattle.chv_play.specs.Turns.{call_in, with_reply_of, Turned, TurnedOrHalted}
+use Rattle.chv_play.specs.Order.{played}
+use Rattle.chv_play.specs.Round.{stage_at, TurnsOut}
+use Rattle.chv_play.specs.Turns.{call_in, with_reply_of, TurnedOrHalted}
 use Rattle.chv_play.proofs.DeskLemmas.{Enters, enters_stays, enters_no_other, never_holding, TellsFull, CallsLeave, asks_at, asked_leaves}
-use Rattle.chv_play.proofs.NextLemmas.{Says, turned_or_halted}
+use Rattle.chv_play.proofs.NextLemmas.{turned_or_halted}
 use Rattle.chv_play.proofs.OrderLemmas.{turn_ordered}
 
 -- ---- what the schedule says
@@ -51,14 +50,14 @@ one_entered : {D : Type 0} (shelf : List OnShelf) (caller : ℕ) (c : ControlCal
     → Enters shelf caller old made new → made ≡ answer ∷ [] → answer.call ≡ c
     → Enters shelf caller old (record { call = c; reply = answer.reply } ∷ []) new
 one_entered {D} shelf caller c answer made old new enters is same =
-    subst (λ (as : List Answer). Enters shelf caller old as new)
+    subst (λ (calls : List Answer). Enters shelf caller old calls new)
     (is ∙ ap (λ (x : ControlCall). record { call = x; reply = answer.reply } ∷ []) same) enters
 
 pub leads : {D : Type 0} (shelf : List OnShelf) (caller : ℕ) (turn : Turn) (old new : Controlled D) (made : List Answer) (bytes : List ℕ)
     → Enters shelf caller old made new → Does turn made bytes → (replies : List (ℕ × List ℕ))
     → after_turn shelf (stage_at old replies) caller turn ≡ Ok (stage_at new (with_reply_of turn caller bytes replies))
 leads {D} shelf caller (Answers (Err rule) last) old new made bytes enters does replies =
-    let same : new ≡ old = subst (λ (as : List Answer). Enters shelf caller old as new) does.0 enters in
+    let same : new ≡ old = subst (λ (calls : List Answer). Enters shelf caller old calls new) does.0 enters in
     ap (λ (b : List ℕ). Ok (stage_at old (replies ++ (caller, b) ∷ []))) (sym does.1)
     ∙ ap (λ (x : Controlled D). Ok (stage_at x (replies ++ (caller, bytes) ∷ []))) (sym same)
 leads {D} shelf caller (Answers (Ok c) last) old new made bytes enters (answer, (goes, inl one), is) replies =
@@ -70,7 +69,7 @@ leads {D} shelf caller (Answers (Ok c) last) old new made bytes enters (answer, 
     ∙ ap (λ (b : List ℕ). Ok (with_reply caller b (with_entry shelf caller c s))) bytes_are
     ∙ ap (λ (x : Controlled D). Ok (stage_at x (replies ++ (caller, bytes) ∷ []))) (sym entry.2)
 leads {D} shelf caller (Answers (Ok c) last) old new made bytes enters (answer, (goes, inr two), is) replies =
-    held_never shelf caller c (answer ∷ []) old new (subst (λ (as : List Answer). Enters shelf caller old as new) two.1 enters)
+    held_never shelf caller c (answer ∷ []) old new (subst (λ (calls : List Answer). Enters shelf caller old calls new) two.1 enters)
 leads {D} shelf caller (Leaves how) old new made bytes enters (bye, is_bye, made_is, none) replies =
     let entry = one_entered shelf caller call.Bye bye made old new enters made_is is_bye in
     ap (λ (f : Option Full). schedule.unless_full f (with_entry shelf caller call.Bye (stage_at old replies))) entry.0
@@ -131,7 +130,7 @@ pub record SaysAt {D : Type 0} (most : ℕ) (count : AnyDisk D → ℕ) (said : 
   pub many : 4096 ≤ most
   pub goes : is_over seat.session.state ≡ false
   pub takes : TakesPieces seat.session.asked after.session.asked seat.session.rest (Some seat.link.left) (Some after.link.left) None None (Some most)
-  pub dry : seat.session.state ≡ state.Open → RunsDry seat.session.asked after.session.asked seat.session.rest 0 0 (Some after.link.left)
+  pub drains : seat.session.state ≡ state.Open → Drains said seat.session.asked after.session.asked seat.session.rest 0 0 (Some after.link.left)
   pub rests : seat.session.state ≢ state.Open → after.link.left ≡ seat.link.left
   pub comes : ComesTo said
       (moment seat.session (answers_by desk.caller desk.control.history) (call_of desk.refused) None 0 0)
@@ -164,7 +163,7 @@ turns_at {D} most count said desk desk_after caller seat after says = go desk_af
     made_is made calls = append_cancel_left answers leaves.made made (sym leaves.answers ∙ calls)
 
     entered : (made : List Answer) → answers_after ≡ answers ++ made → Enters shelf caller desk.control made desk_after.control
-    entered made calls = subst (λ (as : List Answer). Enters shelf caller desk.control as desk_after.control) (made_is made calls) leaves.enters
+    entered made calls = subst (λ (calls : List Answer). Enters shelf caller desk.control calls desk_after.control) (made_is made calls) leaves.enters
 
     comes : ComesTo said (played seat.session answers) (moment after.session answers_after (call_of desk_after.refused) None 0 0)
     comes = subst (λ (n : ℕ). ComesTo said (played seat.session answers)
@@ -175,11 +174,11 @@ turns_at {D} most count said desk desk_after caller seat after says = go desk_af
       many = says.many;
       goes = says.goes;
       takes = says.takes;
-      dry = says.dry;
+      drains = says.drains;
       rests = says.rests;
       comes = comes;
       none_holds = λ c made calls holds. held_never shelf caller c [] desk.control desk_after.control
-          (subst (λ (as : List Answer). Enters shelf caller desk.control as desk_after.control) holds (entered made calls));
+          (subst (λ (calls : List Answer). Enters shelf caller desk.control calls desk_after.control) holds (entered made calls));
     })
 
     go : (refused : Option Refused) → desk_after.refused ≡ refused

@@ -1,8 +1,7 @@
 -- What the contract of `next` says of a session at its stream: it took the first of the turns ahead of it, or the call of
 -- that turn was refused.
-use Rattle.std.proofs.Common.{◌≡◌, ◌≢◌, ◌≤◌, ◌<◌, ◌⊎◌, inl, inr, ℕ, Bool, true, false, List, [], ◌∷◌, ◌++◌, length, Option, None, Some, Result, Ok, Err, refl, sym, ap, subst, ◌∙◌, arith}
+use Rattle.std.proofs.Common.{◌≡◌, ◌≢◌, ◌≤◌, ◌<◌, ◌⊎◌, inl, inr, ℕ, true, false, List, [], ◌∷◌, ◌++◌, length, Option, None, Some, Result, Err, refl, sym, ap, subst, ◌∙◌, arith}
 use Rattle.std.proofs.lemmas.List.{append-nil}
-use Rattle.chv_defs.specs.declared.request.Request.{Request}
 use Rattle.chv_defs.specs.declared.rule.Rule.{Rule}
 use Rattle.chv_defs.specs.declared.control.ControlCall.{ControlCall}
 use Rattle.chv_defs.specs.declared.control.ControlCall.TheVariants as call
@@ -20,11 +19,11 @@ use Rattle.chv_session.specs.declared.next.Next.TheVariants as next
 use Rattle.chv_session.specs.declared.state.State.{State}
 use Rattle.chv_session.specs.declared.state.State.TheVariants as state
 use Rattle.chv_session.specs.Talk.{Talk}
-use Rattle.chv_session.specs.Moment.{Moment, moment, faults}
+use Rattle.chv_session.specs.Moment.{moment, faults}
 use Rattle.chv_session.specs.Taking.{TakesPieces}
-use Rattle.chv_session.specs.Wire.{RunsDry}
+use Rattle.chv_session.specs.Wire.{Drains, HasReadFault}
 use Rattle.chv_session.specs.Response.{Leaves}
-use Rattle.chv_session.specs.Step.{Step, Answers, ComesToEnd, Stops, EndsBy, Refuses, ComesFrom, ComesTo, is_over, state_behind}
+use Rattle.chv_session.specs.Step.{Answers, ComesToEnd, Stops, EndsBy, Refuses, ComesFrom, ComesTo, is_over, state_behind}
 use Rattle.chv_play.specs.Ahead.{ahead_of, ahead_from, with_first}
 use Rattle.chv_play.specs.Order.{played}
 use Rattle.chv_play.specs.Turns.{Turned, Halts, TurnedOrHalted, call_in}
@@ -36,7 +35,7 @@ pub record Says (most : ℕ) (said : Next) (old new : Talk) (left left_after : L
   pub many : 4096 ≤ most
   pub goes : is_over old.state ≡ false
   pub takes : TakesPieces old.asked new.asked old.rest (Some left) (Some left_after) None None (Some most)
-  pub dry : old.state ≡ state.Open → RunsDry old.asked new.asked old.rest 0 0 (Some left_after)
+  pub drains : old.state ≡ state.Open → Drains said old.asked new.asked old.rest 0 0 (Some left_after)
   pub rests : old.state ≢ state.Open → left_after ≡ left
   pub comes : ComesTo said (played old answers) (moment new answers_after refused None 0 0)
   pub none_holds : (c : ControlCall) (made : List Answer) → answers_after ≡ answers ++ made → Holds c made → ⊥
@@ -73,23 +72,45 @@ answered most old new left left_after more reply made fed replied (inr bad) = re
 never_rose : Rose 0 0 → ⊥
 never_rose rose = absurd (omega (arith, rose))
 
+no_read_fault : (said : Next) → HasReadFault said 0 0 → ⊥
+no_read_fault (next.Ended end.Fault) fault = never_rose fault
+no_read_fault (next.Ended end.Stopped) fault = never_rose fault
+no_read_fault (next.Ended how) fault = fault
+no_read_fault next.Answered fault = fault
+
+-- where it has nothing at hand that it could answer, and may take more, nothing is left
+abbrev IsDry : Talk → Talk → List ℕ → List ℕ → Type 0
+IsDry old new left_after more = IsShort (old.rest ++ more) → length new.asked < session_limit → left_after ≡ []
+
+is_dry : (said : Next) (old new : Talk) (left_after more : List ℕ) → new.asked ≡ old.asked ++ more
+    → Drains said old.asked new.asked old.rest 0 0 (Some left_after) → IsDry old new left_after more
+is_dry said old new left_after more grows drains short below = go (drains more grows short below)
+  where
+    go : (left_after ≡ []) ⊎ HasReadFault said 0 0 → left_after ≡ []
+    go (inl none) = none
+    go (inr fault) = absurd (no_read_fault said fault)
+
 -- an end that answers nothing is the turn ahead, and makes no call before its Bye
 abbrev IsEndAhead : Talk → Talk → List ℕ → List ℕ → SessionEnd → List Answer → Type 0
 IsEndAhead old new left left_after how calls =
     (calls ≡ []) × (ahead_of old left ≡ with_first (schedule.Leaves how) (ahead_from (state.Ended how) new left_after))
 
 end_ahead : (most : ℕ) (old new : Talk) (left left_after more : List ℕ) (how : SessionEnd) (unsent : List ℕ) (calls : List Answer)
-    → Fed most old new left left_after more → RunsDry old.asked new.asked old.rest 0 0 (Some left_after)
+    → Fed most old new left left_after more → IsDry old new left_after more
     → ComesToEnd how (old.rest ++ more) new.rest new.asked unsent calls (faults 0 0 0 0) → IsEndAhead old new left left_after how calls
 end_ahead most old new left left_after more end.Ended unsent calls fed dry comes =
     let t = hand_of old new left_after more in
-    let short : IsShort t.rest = subst IsShort (sym comes.0) nothing_is_short in
-    (comes.4, ends_short most old new left left_after more end.Ended fed short (drained t (dry more fed.grows short comes.2 never_rose))
-    (end_nothing t comes.2 comes.0))
+    let short : IsShort t.rest = subst IsShort (sym comes.0) nothing_is_short in (
+      comes.4,
+      ends_short most old new left left_after more end.Ended fed short (drained t (dry short comes.2))
+          (end_nothing t comes.2 comes.0),
+    )
 end_ahead most old new left left_after more end.Cut unsent calls fed dry comes =
-    let t = hand_of old new left_after more in
-    (comes.5, ends_short most old new left left_after more end.Cut fed comes.0 (drained t (dry more fed.grows comes.0 comes.3 never_rose))
-    (end_part t comes.3 comes.1))
+    let t = hand_of old new left_after more in (
+      comes.5,
+      ends_short most old new left left_after more end.Cut fed comes.0 (drained t (dry comes.0 comes.3))
+          (end_part t comes.3 comes.1),
+    )
 end_ahead most old new left left_after more end.Limit unsent calls fed dry comes =
     let t = hand_of old new left_after more in
     (comes.4, ends_short most old new left left_after more end.Limit fed comes.0 (at_limit t comes.2) (end_limit t comes.2))
@@ -138,25 +159,37 @@ abbrev IsHalted : Talk → List ℕ → List Answer → Option ControlCall → T
 IsHalted old left made refused = (made ≡ []) × ((c : ControlCall) × (refused ≡ Some c) × Halts old left c)
 
 halted : (most : ℕ) (old new : Talk) (left left_after more unsent : List ℕ) (made : List Answer) (refused : Option ControlCall)
-    → Fed most old new left left_after more → RunsDry old.asked new.asked old.rest 0 0 (Some left_after)
+    → Fed most old new left left_after more → IsDry old new left_after more
     → ((c : ControlCall) → Holds c made → ⊥)
     → Stops (old.rest ++ more) new.rest new.asked unsent made refused (faults 0 0 0 0) → IsHalted old left made refused
-halted most old new left left_after more unsent made refused fed dry holds (inl (request, begins, (c, is, inl stops), none)) =
-    (stops.0, (c, stops.1, record {
+halted most old new left left_after more unsent made refused fed dry holds (inl (request, begins, (c, is, inl stops), none)) = (
+  stops.0,
+  (
+    c,
+    stops.1,
+    record {
       turn = schedule.Answers (call_of_request request) request.last;
       rest = ahead_from (state_behind request.last) new left_after;
       first = answers_request most old new left left_after more request fed begins;
       makes = ap (λ (r : Result ControlCall Rule). call_in (schedule.Answers r request.last)) is;
-    }))
+    },
+  ),
+)
 halted most old new left left_after more unsent made refused fed dry holds (inl (request, begins, (c, is, inr stops), none)) = absurd (holds c stops.0)
 halted most old new left left_after more unsent made refused fed dry holds (inr (how, comes, is)) =
-    let ahead = end_ahead most old new left left_after more how unsent made fed dry comes in
-    (ahead.0, (call.Bye, is, record {
-      turn = schedule.Leaves how;
-      rest = ahead_from (state.Ended how) new left_after;
-      first = ahead.1;
-      makes = refl;
-    }))
+    let ahead = end_ahead most old new left left_after more how unsent made fed dry comes in (
+      ahead.0,
+      (
+        call.Bye,
+        is,
+        record {
+          turn = schedule.Leaves how;
+          rest = ahead_from (state.Ended how) new left_after;
+          first = ahead.1;
+          makes = refl;
+        },
+      ),
+    )
 
 -- ---- by where it stood
 
@@ -171,14 +204,14 @@ was_halted : (old new : Talk) (left left_after : List ℕ) (answers answers_afte
     → answers_after ≡ answers ++ made → IsHalted old left made refused → TurnedOrHalted old new left left_after answers answers_after refused
 was_halted old new left left_after answers answers_after made refused calls (none, (c, is, halts)) =
     subst (TurnedOrHalted old new left left_after answers answers_after) (sym is)
-    (calls ∙ ap (λ (as : List Answer). answers ++ as) none ∙ append-nil answers, halts)
+    (calls ∙ ap (λ (calls : List Answer). answers ++ calls) none ∙ append-nil answers, halts)
 
 from_state : (most : ℕ) (s : State) (said : Next) (old new : Talk) (left left_after : List ℕ) (answers answers_after : List Answer)
     (refused : Option ControlCall) → old.state ≡ s → Says most said old new left left_after answers answers_after refused
     → ComesFrom s said (played old answers) (moment new answers_after refused None 0 0)
     → TurnedOrHalted old new left left_after answers answers_after refused
 from_state most state.Open next.Answered old new left left_after answers answers_after refused stands says step =
-    let fed = record { many = says.many; opened = stands; takes = says.takes; grows = step.takes } in
+    let fed : Fed most old new left left_after step.more = record { many = says.many; opened = stands; takes = says.takes; grows = step.takes } in
     took_turn old new left left_after answers answers_after step.made refused step.refuses step.calls
     (answered most old new left left_after step.more step.reply step.made fed step.replies step.outcome.0)
 from_state most state.Open (next.Ended how) old new left left_after answers answers_after refused stands says step =
@@ -187,18 +220,21 @@ from_state most state.Open (next.Ended how) old new left left_after answers answ
     fed : Fed most old new left left_after step.more
     fed = record { many = says.many; opened = stands; takes = says.takes; grows = step.takes }
 
+    dry : IsDry old new left_after step.more
+    dry = is_dry (next.Ended how) old new left_after step.more step.takes (says.drains stands)
+
     go : HasBye how (old.rest ++ step.more) new.rest new.asked step.outcome.0 step.made refused
         ⊎ Stops (old.rest ++ step.more) new.rest new.asked step.outcome.0 step.made refused (faults 0 0 0 0)
         → TurnedOrHalted old new left left_after answers answers_after refused
     go (inl (none, (calls, bye, comes, is_bye, made_is))) =
-        let ahead = end_ahead most old new left left_after step.more how step.outcome.0 calls fed (says.dry stands) comes in
+        let ahead = end_ahead most old new left left_after step.more how step.outcome.0 calls fed dry comes in
         took_turn old new left left_after answers answers_after step.made refused none step.calls
         (leaves old new left left_after step.more how step.made bye ahead.1 step.outcome.1 step.takes
         (gives_is most old new left left_after step.more fed) (step.replies ∙ ap (λ (r : List ℕ). old.replied ++ r) step.outcome.2) is_bye
-        (made_is ∙ ap (λ (as : List Answer). as ++ bye ∷ []) ahead.0))
+        (made_is ∙ ap (λ (calls : List Answer). calls ++ bye ∷ []) ahead.0))
     go (inr stops) =
         was_halted old new left left_after answers answers_after step.made refused step.calls
-        (halted most old new left left_after step.more step.outcome.0 step.made refused fed (says.dry stands)
+        (halted most old new left left_after step.more step.outcome.0 step.made refused fed dry
         (λ c holds. says.none_holds c step.made step.calls holds) stops)
 from_state most (state.Leaving how) said old new left left_after answers answers_after refused stands says (came, is, new_is, by, puts) = go by
   where
@@ -217,13 +253,19 @@ from_state most (state.Leaving how) said old new left left_after answers answers
         (ap (λ (t : Talk). t.asked) new_is ∙ sym (append-nil old.asked)) (sym left_is)
         (ap (λ (t : Talk). t.replied) new_is ∙ sym (append-nil old.replied)) is_bye refl)
     go (inr (stops, same, refuses)) =
-        was_halted old new left left_after answers answers_after [] refused (same ∙ sym (append-nil answers))
-        (refl, (call.Bye, refuses, record {
-          turn = schedule.Leaves how;
-          rest = ahead_from (state.Ended how) new left_after;
-          first = ahead;
-          makes = refl;
-        }))
+        was_halted old new left left_after answers answers_after [] refused (same ∙ sym (append-nil answers)) (
+          refl,
+          (
+            call.Bye,
+            refuses,
+            record {
+              turn = schedule.Leaves how;
+              rest = ahead_from (state.Ended how) new left_after;
+              first = ahead;
+              makes = refl;
+            },
+          ),
+        )
 from_state most (state.Ended how) said old new left left_after answers answers_after refused stands says comes =
     absurd (cc (sym says.goes ∙ ap is_over stands))
 from_state most state.Lost said old new left left_after answers answers_after refused stands says comes = absurd comes

@@ -1,5 +1,5 @@
 -- A session that is played makes its calls in order: its turns follow one another from its start.
-use Rattle.std.proofs.Common.{◌≡◌, ◌≢◌, ◌<◌, ℕ, ◌+◌, Bool, true, false, ◌⊎◌, inl, inr, List, [], ◌∷◌, ◌++◌, length, get_or, None, refl, sym, ap, subst, ◌∙◌, arith}
+use Rattle.std.proofs.Common.{◌≡◌, ℕ, Bool, true, false, inl, inr, List, [], ◌∷◌, ◌++◌, refl, sym, ap, subst, ◌∙◌}
 use Rattle.chv_defs.specs.declared.session.SessionEnd.{SessionEnd}
 use Rattle.chv_defs.specs.Desks.{Answer}
 use Rattle.chv_defs.specs.SessionBytes.{IsSessionLog}
@@ -76,8 +76,10 @@ pub turn_ordered : (said : Next) (old new : Talk) (answers answers_after : List 
 turn_ordered next.Answered old new answers answers_after goes comes ordered =
     let so_far = ordered.going goes in
     record {
-      going = λ _. (so_far.0 ++ played new answers_after ∷ [],
-      runs_on (played new_talk []) so_far.0 (played old answers) (played new answers_after) so_far.1 comes);
+      going = λ _. (
+        so_far.0 ++ played new answers_after ∷ [],
+        runs_on (played new_talk []) so_far.0 (played old answers) (played new answers_after) so_far.1 comes,
+      );
       over = λ over. absurd (cc (sym over ∙ answered_goes_on (played old answers) (played new answers_after) goes comes));
     }
 turn_ordered (next.Ended how) old new answers answers_after goes comes ordered =
@@ -85,7 +87,7 @@ turn_ordered (next.Ended how) old new answers answers_after goes comes ordered =
     let ends : new.state ≡ state.Ended how = says_its_end how (played old answers) (played new answers_after) goes comes in
     let all = ends_as_session (played new_talk []) (played old answers) (played new answers_after) so_far.0 how refl so_far.1 comes in
     record {
-      going = λ open. absurd (cc (sym open ∙ ap is_over ends));
+      going = λ goes_on. absurd (cc (sym goes_on ∙ ap is_over ends));
       over = λ _. subst (λ (s : State). IsSessionLog (end_of s) new.asked new.replied answers_after) (sym ends)
           (subst (IsSessionLog how new.asked new.replied) (sym all.1) all.2);
     }

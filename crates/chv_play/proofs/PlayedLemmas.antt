@@ -1,5 +1,5 @@
 -- A run from its start to its end.
-use Rattle.std.proofs.Common.{◌≡◌, ◌≤◌, ◌<◌, ℕ, zero, suc, ◌+◌, ◌-◌, Bool, true, false, max, List, [], ◌∷◌, ◌++◌, length, map, take, drop, get_or, cond, Option, None, Some, Result, Ok, Err, refl, sym, ap, subst, ◌∙◌, arith, add-zero, length-append}
+use Rattle.std.proofs.Common.{◌≡◌, ◌≤◌, ◌<◌, ℕ, zero, suc, ◌+◌, ◌-◌, Bool, true, false, List, [], ◌∷◌, ◌++◌, length, map, take, drop, get_or, cond, Ok, Err, refl, sym, ap, subst, ◌∙◌, arith}
 use Rattle.std.specs.List.{enumerate_from, range_with_len, flat_map}
 use Rattle.std.proofs.lemmas.List.{append-nil, map-append, take_more, drop_all, length-map}
 use Rattle.std.proofs.Math.Seq.{take-append_seam, take-length}
@@ -9,14 +9,12 @@ use Rattle.chv_defs.specs.declared.control.ControlEntry.{ControlEntry}
 use Rattle.chv_defs.specs.declared.bank.Full.{Full}
 use Rattle.chv_defs.specs.declared.scene.OnShelf.{OnShelf}
 use Rattle.chv_defs.specs.declared.scene.Asked.{Asked}
-use Rattle.chv_defs.specs.declared.trace.Trace.{Trace}
 use Rattle.chv_defs.specs.declared.trace.SessionTrace.{SessionTrace}
 use Rattle.chv_defs.specs.declared.session.SessionEnd.{SessionEnd}
 use Rattle.chv_defs.specs.Schedule.{Turn, Visit, Stage, first_stage, after_turns, all_turns, numbered, rounds_of, round_of, visit_of, visit_from, at_start, log_of, trace_of, trace_at, trace_of_streams, stream_of, schedule, replies_to}
 use Rattle.chv_defs.specs.Schedule.{Standing, Answers, visit_at, last_turns, with_turn, filled}
 use Rattle.chv_defs.specs.Schedule as schedule
 use Rattle.chv_defs.specs.StreamCut.{cut}
-use Rattle.chv_defs.specs.SessionBytes.{session_limit}
 use Rattle.chv_defs.specs.Routes.{call_of_request}
 use Rattle.chv_defs.specs.declared.request.Took.{Took}
 use Rattle.chv_defs.specs.declared.request.Took.TheVariants as took
@@ -28,11 +26,10 @@ use Rattle.chv_session.specs.Step.{is_over}
 use Rattle.chv_control.specs.Control.{Controlled}
 use Rattle.chv_play.specs.declared.seat.Seat.{Seat}
 use Rattle.chv_play.specs.Ahead.{Ahead, ahead_in, ahead_of, ahead_from, standing_of, unanswered}
-use Rattle.chv_play.specs.Playing.{ahead_at, visit_ahead, behind_round, turns_left, EachFrom, ForEach, IsPut, Attends, IsUnderWay}
+use Rattle.chv_play.specs.Playing.{ahead_at, visit_ahead, behind_round, turns_left, EachFrom, ForEach, IsPut, Attends}
 use Rattle.chv_play.specs.Order.{IsOrdered, IsOrderedIn}
 use Rattle.chv_play.specs.Round.{Stands, stage_at, whole}
 use Rattle.chv_play.specs.Played.{IsNewSeat, AreNewSeats, AreOver, AreInOrder, Gives, log_at, logs_at, trace_with}
-use Rattle.chv_play.proofs.FilledLemmas.{stand}
 use Rattle.chv_play.proofs.SeatLemmas.{begins, behind_begins}
 use Rattle.chv_play.proofs.RoundLemmas.{rounds_later}
 use Rattle.chv_play.proofs.EachLemmas.{for_each_so, for_each_numbered, for_each_length, for_each_more}

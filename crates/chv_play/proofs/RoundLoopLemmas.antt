@@ -1,14 +1,14 @@
 -- A round, seat by seat.
-use Rattle.std.proofs.Common.{◌≡◌, ◌≢◌, ◌≤◌, ◌<◌, ◌⊎◌, inl, inr, ℕ, zero, suc, ◌+◌, List, [], ◌∷◌, ◌++◌, length, map, get_or, Option, None, Some, is_some, Bool, true, false, Result, Ok, Err, refl, sym, ap, subst, ◌∙◌, arith, append_assoc, add-zero}
+use Rattle.std.proofs.Common.{◌≡◌, ◌<◌, inl, inr, ℕ, suc, ◌+◌, List, ◌∷◌, ◌++◌, length, map, get_or, Option, None, Some, is_some, true, false, Result, Ok, Err, sym, ap, subst, ◌∙◌, arith, append_assoc}
 use Rattle.std.proofs.Math.ListN.{set}
 use Rattle.std.proofs.lemmas.List.{set-get_or}
 use Rattle.chv_defs.specs.declared.bank.Full.{Full}
 use Rattle.chv_defs.specs.declared.scene.OnShelf.{OnShelf}
-use Rattle.chv_defs.specs.Schedule.{Turn, Visit, Stage, then_from, after_turn, after_turns, all_turns, numbered, replies_to}
+use Rattle.chv_defs.specs.Schedule.{Turn, Visit, Stage, then_from, after_turn, after_turns, all_turns, numbered}
 use Rattle.chv_control.specs.Control.{Controlled}
 use Rattle.chv_play.specs.declared.seat.Seat.{Seat}
-use Rattle.chv_play.specs.Ahead.{Ahead, with_first}
-use Rattle.chv_play.specs.Playing.{ahead_at, visit_ahead, round_left, behind_round, turns_left, EachFrom, IsPut, IsUnderWay, Attends}
+use Rattle.chv_play.specs.Ahead.{Ahead}
+use Rattle.chv_play.specs.Playing.{visit_ahead, round_left, behind_round, turns_left, EachFrom, IsPut, Attends}
 use Rattle.chv_play.specs.Order.{IsOrdered, IsOrderedIn}
 use Rattle.chv_play.specs.Turns.{with_reply_of}
 use Rattle.chv_play.specs.Round.{TakesTurn, FindsFull, IsServed, Stands, GoesOn, stage_at, whole}

@@ -1,5 +1,5 @@
 -- Turns that are left at seats: at the start of a round, at its end, and where a seat takes one.
-use Rattle.std.proofs.Common.{◌≡◌, ◌<◌, ℕ, zero, suc, ◌+◌, List, [], ◌∷◌, ◌++◌, length, map, slice_get, get_or, Option, Some, None, refl, sym, ap, ◌∙◌, arith, append_assoc, add-zero}
+use Rattle.std.proofs.Common.{◌≡◌, ◌<◌, ℕ, zero, suc, ◌+◌, List, [], ◌∷◌, ◌++◌, length, map, slice_get, get_or, refl, sym, ap, ◌∙◌, arith, add-zero}
 use Rattle.std.specs.List.{cons_option, enumerate_from}
 use Rattle.std.proofs.Math.ListN.{set}
 use Rattle.chv_defs.specs.Schedule.{Turn, Visit, turn_of, round_of, numbered, all_turns}

@@ -1,7 +1,7 @@
 -- One call of `next` takes the first of the turns that a session has ahead of it.
-use Rattle.std.proofs.Common.{◌≡◌, ◌≢◌, ◌≤◌, ◌<◌, ◌⊎◌, inl, inr, ℕ, zero, suc, ◌+◌, ◌-◌, Bool, true, false, ◌&&◌, cond, nat_lt, nat_le, List, [], ◌∷◌, ◌++◌, length, take, drop, Option, None, Some, IfSome, Result, Ok, Err, refl, sym, ap, subst, ◌∙◌, arith, length-append, length-drop}
+use Rattle.std.proofs.Common.{◌≡◌, ◌≢◌, ◌≤◌, ◌<◌, inl, ℕ, suc, Bool, true, false, ◌&&◌, cond, nat_lt, nat_le, List, [], ◌∷◌, ◌++◌, length, take, None, Some, Result, Err, refl, sym, ap, ◌∙◌, arith, length-append}
 use Rattle.std.specs.List.{concat}
-use Rattle.std.proofs.lemmas.List.{append_cancel_left, append-nil}
+use Rattle.std.proofs.lemmas.List.{append_cancel_left}
 use Rattle.std.proofs.Math.Seq.{take-nil}
 use Rattle.chv_defs.specs.declared.rule.Rule.{Rule}
 use Rattle.chv_defs.specs.declared.request.Request.{Request}
@@ -10,18 +10,17 @@ use Rattle.chv_defs.specs.declared.request.Took.TheVariants as took
 use Rattle.chv_defs.specs.declared.control.ControlCall.{ControlCall}
 use Rattle.chv_defs.specs.declared.session.SessionEnd.{SessionEnd}
 use Rattle.chv_defs.specs.declared.session.SessionEnd.TheVariants as end
-use Rattle.chv_defs.specs.Desks.{Answer}
 use Rattle.chv_defs.specs.Requests.{BeginsWith, Cuts, IsShort}
 use Rattle.chv_defs.specs.Routes.{call_of_request}
 use Rattle.chv_defs.specs.SessionBytes.{IsBad, asks_for, session_limit}
 use Rattle.chv_defs.specs.StreamCut.{cut}
-use Rattle.chv_defs.specs.Schedule.{Standing, next_piece, takes_more, is_not_yet, filled, Turn, Visit, Answers, Leaves, with_turn, last_turns, end_at, end_behind, visit_at, visit_from}
+use Rattle.chv_defs.specs.Schedule.{Standing, next_piece, takes_more, is_not_yet, filled, Visit, Answers, Leaves, with_turn, last_turns, end_at, end_behind, visit_at, visit_from}
 use Rattle.chv_session.specs.declared.state.State.{State}
 use Rattle.chv_session.specs.declared.state.State.TheVariants as state
 use Rattle.chv_session.specs.Talk.{Talk}
 use Rattle.chv_session.specs.Taking.{TakesPieces}
 use Rattle.chv_session.specs.Step.{state_behind}
-use Rattle.chv_play.specs.Ahead.{Ahead, ahead_in, ahead_from, ahead_of, with_first, standing_of, unanswered}
+use Rattle.chv_play.specs.Ahead.{ahead_in, ahead_from, ahead_of, with_first, standing_of, unanswered}
 use Rattle.chv_play.proofs.FilledLemmas.{cut_is, stand, filled_is}
 use Rattle.chv_play.proofs.VisitLemmas.{cut_shorter, filled_size, enough}
 
