@@ -3,12 +3,10 @@
 
 mod asked;
 mod desk;
-mod outlook;
 mod player;
 mod round;
 mod seat;
 mod stream;
-mod turn;
 
 pub use player::{Played, play};
 
