@@ -3,7 +3,7 @@ ghost use Rattle.std.specs.Prelude.{◌≡◌, ◌+◌, ◌*◌, ◌^◌, nat_le
 ghost use Rattle.std.specs.List.{list_all};
 ghost use Rattle.chv_defs.specs.AddressMap.{is_within_limits};
 
-use crate::AddrMap;
+use chv_addr::AddrMap;
 use chv_defs::{
     Checked, CpuConfig, Hotplug, MemConfig, Place, Region, Row, Text, VmConfig, ZoneConfig,
 };

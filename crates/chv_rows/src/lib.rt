@@ -10,6 +10,8 @@ mod api_replies;
 #[cfg(test)]
 mod bank;
 #[cfg(test)]
+mod common;
+#[cfg(test)]
 mod config;
 #[cfg(test)]
 mod control;
