@@ -56,10 +56,19 @@ makes_settle before middle after c r last holding first second fits = (
   (settled_is last fits, inr (refl, refl)),
 )
 
-pub stops_holding : (before middle after : List Answer) (c : ControlCall) (r : ControlReply) → is_holding r ≡ true
+pub stops_holding : (before middle after : List Answer) (c : ControlCall) (r : ControlReply) (refused : Option ControlCall) → is_holding r ≡ true
+    → middle ≡ before ++ record { call = c; reply = r } ∷ [] → after ≡ middle → refused ≡ Some call.Settle
+    → HasMadeAlso before after (λ made. ((made ≡ []) × (refused ≡ Some c)) ⊎ (Holds c made × (refused ≡ Some call.Settle)))
+stops_holding before middle after c r refused holding first second is = (
+  record { call = c; reply = reply.Holding } ∷ [],
+  second ∙ first ∙ ap (λ x. before ++ record { call = c; reply = x } ∷ []) (holding_is r holding),
+  inr (refl, is),
+)
+
+pub made_holding : (before middle after : List Answer) (c : ControlCall) (r : ControlReply) → is_holding r ≡ true
     → middle ≡ before ++ record { call = c; reply = r } ∷ [] → after ≡ middle
     → HasMadeAlso before after (λ made. (made ≡ []) ⊎ Holds c made)
-stops_holding before middle after c r holding first second = (
+made_holding before middle after c r holding first second = (
   record { call = c; reply = reply.Holding } ∷ [],
   second ∙ first ∙ ap (λ x. before ++ record { call = c; reply = x } ∷ []) (holding_is r holding),
   inr refl,
@@ -88,19 +97,19 @@ asked : (c : ControlCall) → is_session_call c ≡ true → is_bye c ≡ false 
 unfolding Says
 asked c e f = record { says = (e, f) }
 
-refused : (rule : Rule) → IsAsked (Err rule)
+no_call : (rule : Rule) → IsAsked (Err rule)
 unfolding Says
-refused rule = record { says = tt }
+no_call rule = record { says = tt }
 
 get_asked : (name : List ℕ) → IsAsked (get_call name)
-get_asked name = search (if_asked, asked, refused) depth 12 fits 400
+get_asked name = search (if_asked, asked, no_call) depth 12 fits 400
 
 put_asked : (name body : List ℕ) → IsAsked (put_call name body)
-put_asked name body = search (if_asked, then_asked, asked, refused) depth 40 fits 4000
+put_asked name body = search (if_asked, then_asked, asked, no_call) depth 40 fits 4000
 
 named_asked : (request : Request) (name : Option (List ℕ)) → IsAsked (call_named request name)
-named_asked request None = refused NoRoute
-named_asked request (Some name) = search (if_asked, get_asked, put_asked, refused)
+named_asked request None = no_call NoRoute
+named_asked request (Some name) = search (if_asked, get_asked, put_asked, no_call)
 
 pub request_asks : (request : Request) (c : ControlCall) (found : Result ControlCall Rule) → found ≡ call_of_request request
     → found ≡ Ok c → is_session_call c ≡ true
@@ -114,13 +123,13 @@ request_asks_no_bye request c is = (subst IsAsked is (named_asked request (route
 -- ---- a request that is served
 
 pub serves_ok : (before after : List Answer) (request : Request) (c : ControlCall) (found : Result ControlCall Rule)
-    (last : ControlCall × ControlReply) (bytes : List ℕ) (response : Option (List ℕ)) (after_it : Then) (halted halted_after : Bool)
+    (last : ControlCall × ControlReply) (bytes : List ℕ) (response : Option (List ℕ)) (after_it : Then) (refused refused_after : Option ControlCall)
     → found ≡ call_of_request request → found ≡ Ok c
     → HasMadeAlso before after (λ made. Makes c made (record { call = last.0; reply = last.1 }))
     → bytes ≡ reply_to_call last.0 last.1 request.last → response ≡ Some bytes → after_it ≡ then_after request.last
-    → halted_after ≡ halted
-    → HasMadeAlso before after (λ made. Serves request response after_it made halted halted_after)
-serves_ok before after request c found last bytes response after_it halted halted_after is ok makes bytes_are reply_is then_is goes = (
+    → refused_after ≡ refused
+    → HasMadeAlso before after (λ made. Serves request response after_it made refused refused_after)
+serves_ok before after request c found last bytes response after_it refused refused_after is ok makes bytes_are reply_is then_is goes = (
   makes.0,
   makes.1,
   inl (
@@ -141,8 +150,8 @@ breaks_ok before after request c found last is ok makes =
     let bytes = reply_to_call last.0 last.1 request.last in (
       makes.0,
       makes.1,
-      inr (
+      inr (inr (
         bytes,
         subst (λ r. AnsweredBy r request.last makes.0 bytes) (sym ok ∙ is) (record { call = last.0; reply = last.1 }, makes.2, refl),
-      ),
+      )),
     )

@@ -13,7 +13,7 @@ use Rattle.std.specs.List.{AllByRecursion}
 use Rattle.chv_defs.specs.declared.rule.Rule.{Rule}
 use Rattle.chv_defs.specs.declared.control.ControlCall.{ControlCall}
 use Rattle.chv_defs.specs.Routes.{call_of_request}
-use Rattle.chv_defs.specs.SessionBytes.{Answered, AnsweredBy, AreAnswered, has_last, IsOpen, EndsAs, StopsAs, IsSessionLog}
+use Rattle.chv_defs.specs.SessionBytes.{Answered, AnsweredBy, AreAnswered, Holds, has_last, IsOpen, EndsAs, StopsAs, IsSessionLog}
 use Rattle.chv_http.proofs.CutLemmas.{cuts_into_append, cuts_into_join}
 use Rattle.chv_session.specs.declared.next.Next.TheVariants as next
 use Rattle.chv_session.specs.declared.state.State.{State}
@@ -143,51 +143,62 @@ log_with_bye end.Limit asked replied made all bye ends says is = (made, bye, end
 log_with_bye end.Stopped asked replied made all bye ends says is = absurd ends
 
 -- stopped in a request, or at the Bye
-stops_in : (asked replied hand behind : List ℕ) (made more : List Answer) (request : Request) → IsOpen asked replied made hand
-    → BeginsWith hand request behind → StopsIn request more → StopsAs asked replied (made ++ more)
-stops_in asked replied hand behind made more request so_far begins (inl none) =
+stops_before : (asked replied hand : List ℕ) (made more : List Answer) → IsOpen asked replied made hand → more ≡ []
+    → StopsAs asked replied (made ++ more)
+stops_before asked replied hand made more so_far none =
     inl (hand, open_same asked replied replied hand hand made (made ++ more) so_far refl (no_more made more none) refl)
-stops_in asked replied hand behind made more request so_far begins (inr held) =
-    inr (inl (made, hand, request, behind, held.0, more, so_far, begins, held.1, held.2, refl))
 
-log_stops : (asked replied hand rest unsent : List ℕ) (made more : List Answer) (counts : Faults) → IsOpen asked replied made hand
-    → Stops hand rest asked unsent more counts → StopsAs asked replied (made ++ more)
-log_stops asked replied hand rest unsent made more counts so_far (inl within) =
-    stops_in asked replied hand rest made more within.0 so_far within.1 within.2
-log_stops asked replied hand rest unsent made more counts so_far (inr at_bye) =
+stops_held : (asked replied hand behind : List ℕ) (made more : List Answer) (request : Request) (c : ControlCall) → IsOpen asked replied made hand
+    → BeginsWith hand request behind → call_of_request request ≡ Ok c → Holds c more → StopsAs asked replied (made ++ more)
+stops_held asked replied hand behind made more request c so_far begins asks holds =
+    inr (inl (made, hand, request, behind, c, more, so_far, begins, asks, holds, refl))
+
+stops_in : (asked replied hand behind : List ℕ) (made more : List Answer) (refused : Option ControlCall) (request : Request)
+    → IsOpen asked replied made hand → BeginsWith hand request behind → StopsIn request more refused → StopsAs asked replied (made ++ more)
+stops_in asked replied hand behind made more refused request so_far begins (c, asks, inl none) =
+    stops_before asked replied hand made more so_far none.0
+stops_in asked replied hand behind made more refused request so_far begins (c, asks, inr held) =
+    stops_held asked replied hand behind made more request c so_far begins asks held.0
+
+log_stops : (asked replied hand rest unsent : List ℕ) (made more : List Answer) (refused : Option ControlCall) (counts : Faults)
+    → IsOpen asked replied made hand → Stops hand rest asked unsent more refused counts → StopsAs asked replied (made ++ more)
+log_stops asked replied hand rest unsent made more refused counts so_far (inl within) =
+    stops_in asked replied hand rest made more refused within.0 so_far within.1 within.2
+log_stops asked replied hand rest unsent made more refused counts so_far (inr at_bye) =
     inr (inr (at_bye.0, ends_as at_bye.0 asked replied hand rest unsent made more counts so_far at_bye.1))
 
-log_is : (how : SessionEnd) (asked replied hand rest unsent : List ℕ) (made more : List Answer) (counts : Faults) → IsOpen asked replied made hand
-    → EndsBy how hand rest asked unsent more counts → IsSessionLog how asked replied (made ++ more)
-log_is end.Stopped asked replied hand rest unsent made more counts so_far ends =
-    log_stops asked replied hand rest unsent made more counts so_far ends
-log_is end.Ended asked replied hand rest unsent made more counts so_far ends =
+log_is : (how : SessionEnd) (asked replied hand rest unsent : List ℕ) (made more : List Answer) (refused : Option ControlCall) (counts : Faults)
+    → IsOpen asked replied made hand → EndsBy how hand rest asked unsent more refused counts → IsSessionLog how asked replied (made ++ more)
+log_is end.Stopped asked replied hand rest unsent made more refused counts so_far ends =
+    log_stops asked replied hand rest unsent made more refused counts so_far ends
+log_is end.Ended asked replied hand rest unsent made more refused counts so_far ends =
     log_with_bye end.Ended asked replied (made ++ ends.0) (made ++ more) ends.1
     (ends_as end.Ended asked replied hand rest unsent made ends.0 counts so_far ends.2) ends.3 (with_bye made ends.0 more ends.1 ends.4)
-log_is end.Cut asked replied hand rest unsent made more counts so_far ends =
+log_is end.Cut asked replied hand rest unsent made more refused counts so_far ends =
     log_with_bye end.Cut asked replied (made ++ ends.0) (made ++ more) ends.1
     (ends_as end.Cut asked replied hand rest unsent made ends.0 counts so_far ends.2) ends.3 (with_bye made ends.0 more ends.1 ends.4)
-log_is end.Bad asked replied hand rest unsent made more counts so_far ends =
+log_is end.Bad asked replied hand rest unsent made more refused counts so_far ends =
     log_with_bye end.Bad asked replied (made ++ ends.0) (made ++ more) ends.1
     (ends_as end.Bad asked replied hand rest unsent made ends.0 counts so_far ends.2) ends.3 (with_bye made ends.0 more ends.1 ends.4)
-log_is end.Closed asked replied hand rest unsent made more counts so_far ends =
+log_is end.Closed asked replied hand rest unsent made more refused counts so_far ends =
     log_with_bye end.Closed asked replied (made ++ ends.0) (made ++ more) ends.1
     (ends_as end.Closed asked replied hand rest unsent made ends.0 counts so_far ends.2) ends.3 (with_bye made ends.0 more ends.1 ends.4)
-log_is end.Fault asked replied hand rest unsent made more counts so_far ends =
+log_is end.Fault asked replied hand rest unsent made more refused counts so_far ends =
     log_with_bye end.Fault asked replied (made ++ ends.0) (made ++ more) ends.1
     (ends_as end.Fault asked replied hand rest unsent made ends.0 counts so_far ends.2) ends.3 (with_bye made ends.0 more ends.1 ends.4)
-log_is end.Limit asked replied hand rest unsent made more counts so_far ends =
+log_is end.Limit asked replied hand rest unsent made more refused counts so_far ends =
     log_with_bye end.Limit asked replied (made ++ ends.0) (made ++ more) ends.1
     (ends_as end.Limit asked replied hand rest unsent made ends.0 counts so_far ends.2) ends.3 (with_bye made ends.0 more ends.1 ends.4)
 
 -- want of memory
 log_breaks : (asked replied hand unsent : List ℕ) (made more : List Answer) (counts : Faults) → IsOpen asked replied made hand
     → BreaksAt hand asked unsent more counts → StopsAs asked replied (made ++ more)
-log_breaks asked replied hand unsent made more counts so_far (inl none) =
-    inl (hand, open_same asked replied replied hand hand made (made ++ more) so_far refl (no_more made more none.0) refl)
-log_breaks asked replied hand unsent made more counts so_far (inr (inl (request, behind, begins, inl stops, nothing))) =
-    stops_in asked replied hand behind made more request so_far begins stops
-log_breaks asked replied hand unsent made more counts so_far (inr (inl (request, behind, begins, inr replies, nothing))) =
+log_breaks asked replied hand unsent made more counts so_far (inl none) = stops_before asked replied hand made more so_far none.0
+log_breaks asked replied hand unsent made more counts so_far (inr (inl (request, behind, begins, inl none, nothing))) =
+    stops_before asked replied hand made more so_far none
+log_breaks asked replied hand unsent made more counts so_far (inr (inl (request, behind, begins, inr (inl held), nothing))) =
+    stops_held asked replied hand behind made more request held.0 so_far begins held.1 held.2
+log_breaks asked replied hand unsent made more counts so_far (inr (inl (request, behind, begins, inr (inr replies), nothing))) =
     inr (inr (end.Fault, (made, hand, so_far, inr (inr (request, behind, more, replies.0, begins, replies.1, refl)))))
 log_breaks asked replied hand unsent made more counts so_far (inr (inr at_bye)) =
     inr (inr (at_bye.0, ends_as at_bye.0 asked replied hand at_bye.1 unsent made more counts so_far at_bye.2))
@@ -235,7 +246,7 @@ turn_answers : (s : State) (answers : List Answer) (put : Option (List ℕ)) (be
     → StandsAs s before.talk.asked before.talk.replied made before.talk.rest → before.answers ≡ answers ++ made
     → Gains put before.put before.talk.replied → ComesFrom s next.Answered before after → SoFar answers put after
 turn_answers state.Open answers put before after made stands calls puts goes =
-    let step = goes.0 in
+    let step = goes in
     let taken = open_takes before.talk.asked before.talk.replied before.talk.rest step.more made stands in
     let now = stands_after after.talk.state (before.talk.asked ++ step.more) before.talk.replied (before.talk.rest ++ step.more) after.talk.rest
     step.reply made step.made taken step.outcome.0 in
@@ -291,7 +302,7 @@ left_log state.Lost asked replied rest made stands = absurd stands
 -- the Bye of a session that leaves
 bye_log : (how came said : SessionEnd) (answers : List Answer) (last after : Moment) (made : List Answer)
     → EndsAs how last.talk.asked last.talk.replied made → last.answers ≡ answers ++ made → said ≡ came
-    → after.talk ≡ record last.talk { state = state.Ended came } → Leaves how came last.answers after.answers last.halted after.halted
+    → after.talk ≡ record last.talk { state = state.Ended came } → Leaves how came last.answers after.answers last.refused after.refused
     → Logs said answers after
 bye_log how came said answers last after made stands calls says talk (inl byes) = (
   made ++ byes.0 ∷ [],
@@ -311,12 +322,12 @@ end_log : (s : State) (how : SessionEnd) (answers : List Answer) (last after : M
     → StandsAs s last.talk.asked last.talk.replied made last.talk.rest → last.answers ≡ answers ++ made
     → ComesFrom s (next.Ended how) last after → Logs how answers after
 end_log state.Open how answers last after made stands calls goes =
-    let step = goes.0 in
+    let step = goes in
     let ends = step.outcome in
     let counts = faults last.reads after.reads last.writes after.writes in
     let taken = open_takes last.talk.asked last.talk.replied last.talk.rest step.more made stands in
     let log = log_is how (last.talk.asked ++ step.more) last.talk.replied (last.talk.rest ++ step.more) after.talk.rest ends.0 made step.made
-    counts taken (subst (λ a. EndsBy how (last.talk.rest ++ step.more) after.talk.rest a ends.0 step.made counts) step.takes ends.3) in (
+    after.refused counts taken (subst (λ a. EndsBy how (last.talk.rest ++ step.more) after.talk.rest a ends.0 step.made after.refused counts) step.takes ends.3) in (
       made ++ step.made,
       step.calls ∙ ap (λ l. l ++ step.made) calls ∙ append_assoc answers made step.made,
       subst (λ a. IsSessionLog how a after.talk.replied (made ++ step.made)) (sym step.takes)
@@ -395,29 +406,29 @@ comes_puts end.Bad hand rest asked unsent calls made counts a b c replied comes 
 comes_puts end.Closed hand rest asked unsent calls made counts a b c replied comes so_far gains part = absurd comes
 comes_puts end.Stopped hand rest asked unsent calls made counts a b c replied comes so_far gains part = absurd comes
 
-stops_puts : (hand rest asked unsent : List ℕ) (more made : List Answer) (counts : Faults) (a b c : Option (List ℕ)) (replied : List ℕ)
-    → Stops hand rest asked unsent more counts → IsOpen asked replied made hand → Gains a b replied → GainsPart b c unsent
+stops_puts : (hand rest asked unsent : List ℕ) (more made : List Answer) (refused : Option ControlCall) (counts : Faults) (a b c : Option (List ℕ)) (replied : List ℕ)
+    → Stops hand rest asked unsent more refused counts → IsOpen asked replied made hand → Gains a b replied → GainsPart b c unsent
     → PutsPart a c asked replied
-stops_puts hand rest asked unsent more made counts a b c replied (inl within) so_far gains part =
+stops_puts hand rest asked unsent more made refused counts a b c replied (inl within) so_far gains part =
     inl (puts_none a b c replied unsent gains part within.3)
-stops_puts hand rest asked unsent more made counts a b c replied (inr at_bye) so_far gains part =
+stops_puts hand rest asked unsent more made refused counts a b c replied (inr at_bye) so_far gains part =
     comes_puts at_bye.0 hand rest asked unsent more made counts a b c replied at_bye.1 so_far gains part
 
-ends_puts : (how : SessionEnd) (hand rest asked unsent : List ℕ) (more made : List Answer) (counts : Faults) (a b c : Option (List ℕ)) (replied : List ℕ)
-    → EndsBy how hand rest asked unsent more counts → IsOpen asked replied made hand → Gains a b replied → GainsPart b c unsent
+ends_puts : (how : SessionEnd) (hand rest asked unsent : List ℕ) (more made : List Answer) (refused : Option ControlCall) (counts : Faults) (a b c : Option (List ℕ)) (replied : List ℕ)
+    → EndsBy how hand rest asked unsent more refused counts → IsOpen asked replied made hand → Gains a b replied → GainsPart b c unsent
     → PutsAt how a c asked replied
-ends_puts end.Ended hand rest asked unsent more made counts a b c replied ends so_far gains part =
+ends_puts end.Ended hand rest asked unsent more made refused counts a b c replied ends so_far gains part =
     puts_none a b c replied unsent gains part ends.2.3
-ends_puts end.Cut hand rest asked unsent more made counts a b c replied ends so_far gains part =
+ends_puts end.Cut hand rest asked unsent more made refused counts a b c replied ends so_far gains part =
     puts_none a b c replied unsent gains part ends.2.4
-ends_puts end.Limit hand rest asked unsent more made counts a b c replied ends so_far gains part =
+ends_puts end.Limit hand rest asked unsent more made refused counts a b c replied ends so_far gains part =
     puts_none a b c replied unsent gains part ends.2.3
-ends_puts end.Fault hand rest asked unsent more made counts a b c replied ends so_far gains part =
+ends_puts end.Fault hand rest asked unsent more made refused counts a b c replied ends so_far gains part =
     comes_puts end.Fault hand rest asked unsent ends.0 made counts a b c replied ends.2 so_far gains part
-ends_puts end.Bad hand rest asked unsent more made counts a b c replied ends so_far gains part = absurd ends.2
-ends_puts end.Closed hand rest asked unsent more made counts a b c replied ends so_far gains part = absurd ends.2
-ends_puts end.Stopped hand rest asked unsent more made counts a b c replied ends so_far gains part =
-    stops_puts hand rest asked unsent more made counts a b c replied ends so_far gains part
+ends_puts end.Bad hand rest asked unsent more made refused counts a b c replied ends so_far gains part = absurd ends.2
+ends_puts end.Closed hand rest asked unsent more made refused counts a b c replied ends so_far gains part = absurd ends.2
+ends_puts end.Stopped hand rest asked unsent more made refused counts a b c replied ends so_far gains part =
+    stops_puts hand rest asked unsent more made refused counts a b c replied ends so_far gains part
 
 breaks_puts : (hand asked unsent : List ℕ) (more made : List Answer) (counts : Faults) (a b c : Option (List ℕ)) (replied : List ℕ)
     → BreaksAt hand asked unsent more counts → IsOpen asked replied made hand → Gains a b replied → GainsPart b c unsent
@@ -433,13 +444,13 @@ end_puts : (s : State) (how : SessionEnd) (put : Option (List ℕ)) (last after 
     → StandsAs s last.talk.asked last.talk.replied made last.talk.rest → Gains put last.put last.talk.replied
     → ComesFrom s (next.Ended how) last after → PutsAt how put after.put after.talk.asked after.talk.replied
 end_puts state.Open how put last after made stands gains goes =
-    let step = goes.0 in
+    let step = goes in
     let ends = step.outcome in
     let counts = faults last.reads after.reads last.writes after.writes in
     let taken = open_takes last.talk.asked last.talk.replied last.talk.rest step.more made stands in
     let at_asked = subst (λ a. IsOpen a last.talk.replied made (last.talk.rest ++ step.more)) (sym step.takes) taken in
     subst (λ r. PutsAt how put after.put after.talk.asked r) (sym (step.replies ∙ no_more last.talk.replied step.reply ends.2))
-    (ends_puts how (last.talk.rest ++ step.more) after.talk.rest after.talk.asked ends.0 step.made made counts put last.put after.put
+    (ends_puts how (last.talk.rest ++ step.more) after.talk.rest after.talk.asked ends.0 step.made made after.refused counts put last.put after.put
     last.talk.replied ends.3 at_asked gains ends.4)
 end_puts (state.Leaving how_then) how put last after made stands gains goes =
     subst (λ (t : Talk). PutsAt how put after.put t.asked t.replied) (sym goes.2)
@@ -485,7 +496,7 @@ answers_no_bye stands hand rest reply made (inr bad) = subst HaveNoBye (sym bad.
 turn_no_bye : (s : State) (before after : Moment) → ComesFrom s next.Answered before after
     → (made : List Answer) × (after.answers ≡ before.answers ++ made) × HaveNoBye made
 turn_no_bye state.Open before after goes =
-    let step = goes.0 in
+    let step = goes in
     (step.made, step.calls, answers_no_bye after.talk.state (before.talk.rest ++ step.more) after.talk.rest step.reply step.made step.outcome.0)
 turn_no_bye (state.Leaving how) before after goes = absurd (cc (goes.1))
 turn_no_bye (state.Ended how) before after goes = absurd (cc (goes.0))

@@ -1,7 +1,8 @@
 mod TakingLemmas
 mod FoundLemmas
 mod LeavesLemmas
-mod DeskLemmas
+pub mod DeskLemmas
+pub mod AskedLemmas
 mod StepLemmas
 mod ResultLemmas
 mod ReadyLemmas

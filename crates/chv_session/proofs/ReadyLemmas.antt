@@ -31,9 +31,9 @@ answer_ready stands hand rest reply before made free (inl (request, begins, answ
 answer_ready stands hand rest reply before made free (inr bad) = ap is_held (ap (λ m. before ++ m) bad.3 ∙ append-nil before) ∙ free
 
 pub step_ready : (what : Next) (stands : State) (asked asked_after rest rest_after replied replied_after : List ℕ) (answers answers_after : List Answer)
-    (put put_after : Option (List ℕ)) (counts : Faults)
-    → Step what stands asked asked_after rest rest_after replied replied_after answers answers_after put put_after counts
+    (refused refused_after : Option ControlCall) (put put_after : Option (List ℕ)) (counts : Faults)
+    → Step what stands asked asked_after rest rest_after replied replied_after answers answers_after refused refused_after put put_after counts
     → is_held answers ≡ false → IsReady what answers_after
-step_ready next.Answered stands asked asked_after rest rest_after replied replied_after answers answers_after put put_after counts step free =
+step_ready next.Answered stands asked asked_after rest rest_after replied replied_after answers answers_after refused refused_after put put_after counts step free =
     ap is_held step.calls ∙ answer_ready stands (rest ++ step.more) rest_after step.reply answers step.made free step.outcome.0
-step_ready (next.Ended how) stands asked asked_after rest rest_after replied replied_after answers answers_after put put_after counts step free = tt
+step_ready (next.Ended how) stands asked asked_after rest rest_after replied replied_after answers answers_after refused refused_after put put_after counts step free = tt

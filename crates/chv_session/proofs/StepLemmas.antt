@@ -4,6 +4,7 @@ use Rattle.std.proofs.lemmas.List.{append-nil}
 use Rattle.std.proofs.lemmas.Bool.{eqb-true}
 use Rattle.std.specs.List.{concat}
 use Rattle.chv_defs.specs.declared.request.Request.{Request}
+use Rattle.chv_defs.specs.declared.control.ControlCall.{ControlCall}
 use Rattle.chv_defs.specs.declared.control.ControlCall.TheVariants as call
 use Rattle.chv_defs.specs.declared.session.SessionEnd.{SessionEnd}
 use Rattle.chv_defs.specs.declared.session.SessionEnd.TheVariants as end
@@ -22,8 +23,8 @@ use Rattle.chv_session.specs.declared.state.State.TheVariants as state
 use Rattle.chv_session.specs.Moment.{Faults, faults}
 use Rattle.chv_session.specs.Taking.{TakesPieces}
 use Rattle.chv_session.specs.Found.{IsFound, Finds, IsCaused}
-use Rattle.chv_session.specs.Response.{HasMadeAlso, StopsIn, BreaksOn, Responds, Sends, Finishes, IsEnd, then_after, end_at}
-use Rattle.chv_session.specs.Step.{said_at, state_behind, Answers, ComesToEnd, EndsBy, Outcome, Step, Halts, BreaksAt, Breaks}
+use Rattle.chv_session.specs.Response.{HasMadeAlso, StopsIn, BreaksIn, BreaksOn, Responds, Sends, Finishes, IsEnd, then_after, end_at}
+use Rattle.chv_session.specs.Step.{said_at, state_behind, Answers, ComesToEnd, EndsBy, Outcome, Step, Refuses, BreaksAt, Breaks}
 
 -- ---- what is put, and what rose
 
@@ -53,47 +54,46 @@ sends_within (Some bytes) planned then_of replied replied_after put put_after a 
 -- ---- what is planned
 
 -- what was found and made, what was put and kept of it, and what comes then
-abbrev pub Comes : Then → List ℕ → List ℕ → List ℕ → List ℕ → List ℕ → Option (List ℕ) → Option (List ℕ) → List Answer → Bool → Bool → Faults → Type 0
-Comes then_is.GoOn hand rest asked replied replied_after put put_after made halted halted_after counts =
+abbrev pub Comes : Then → List ℕ → List ℕ → List ℕ → List ℕ → List ℕ → Option (List ℕ) → Option (List ℕ) → List Answer → Option ControlCall → Option ControlCall → Faults → Type 0
+Comes then_is.GoOn hand rest asked replied replied_after put put_after made refused refused_after counts =
     (reply : List ℕ) × Answers state.Open hand rest reply made × (replied_after ≡ replied ++ reply) × Gains put put_after reply
-    × (halted_after ≡ halted)
-Comes (then_is.Leave how) hand rest asked replied replied_after put put_after made halted halted_after counts =
+    × (refused_after ≡ refused)
+Comes (then_is.Leave how) hand rest asked replied replied_after put put_after made refused refused_after counts =
     (reply : List ℕ) × Answers (state.Leaving how) hand rest reply made × (replied_after ≡ replied ++ reply)
-    × Gains put put_after reply × (halted_after ≡ halted)
-Comes then_is.Stop hand rest asked replied replied_after put put_after made halted halted_after counts =
-    (request : Request) × BeginsWith hand request rest × StopsIn request made × (replied_after ≡ replied) × (put_after ≡ put)
-    × (halted_after ≡ true)
-Comes (then_is.End how) hand rest asked replied replied_after put put_after made halted halted_after counts =
+    × Gains put put_after reply × (refused_after ≡ refused)
+Comes then_is.Stop hand rest asked replied replied_after put put_after made refused refused_after counts =
+    (request : Request) × BeginsWith hand request rest × StopsIn request made refused_after × (replied_after ≡ replied) × (put_after ≡ put)
+Comes (then_is.End how) hand rest asked replied replied_after put put_after made refused refused_after counts =
     (unsent : List ℕ) × ComesToEnd how hand rest asked unsent made counts × (replied_after ≡ replied)
-    × GainsPart put put_after unsent × (halted_after ≡ halted)
+    × GainsPart put put_after unsent × (refused_after ≡ refused)
 
 -- no reply
-sent_none : (planned then_of : Then) (hand rest asked replied replied_after : List ℕ) (put put_after : Option (List ℕ)) (made : List Answer) (halted halted_after : Bool) (counts : Faults)
+sent_none : (planned then_of : Then) (hand rest asked replied replied_after : List ℕ) (put put_after : Option (List ℕ)) (made : List Answer) (refused refused_after : Option ControlCall) (counts : Faults)
     → Sends None planned then_of replied replied_after put put_after counts.writes counts.writes_after
-    → (replied_after ≡ replied → put_after ≡ put → Comes planned hand rest asked replied replied_after put put_after made halted halted_after counts)
-    → Comes then_of hand rest asked replied replied_after put put_after made halted halted_after counts
-sent_none planned then_of hand rest asked replied replied_after put put_after made halted halted_after counts sends comes =
-    subst (λ t. Comes t hand rest asked replied replied_after put put_after made halted halted_after counts) (sym sends.0) (comes sends.1 sends.2)
+    → (replied_after ≡ replied → put_after ≡ put → Comes planned hand rest asked replied replied_after put put_after made refused refused_after counts)
+    → Comes then_of hand rest asked replied replied_after put put_after made refused refused_after counts
+sent_none planned then_of hand rest asked replied replied_after put put_after made refused refused_after counts sends comes =
+    subst (λ t. Comes t hand rest asked replied replied_after put put_after made refused refused_after counts) (sym sends.0) (comes sends.1 sends.2)
 
 -- a reply, put or not
-sent_some : (planned then_of : Then) (bytes : List ℕ) (hand rest asked replied replied_after : List ℕ) (put put_after : Option (List ℕ)) (made : List Answer) (halted halted_after : Bool) (counts : Faults)
+sent_some : (planned then_of : Then) (bytes : List ℕ) (hand rest asked replied replied_after : List ℕ) (put put_after : Option (List ℕ)) (made : List Answer) (refused refused_after : Option ControlCall) (counts : Faults)
     → Sends (Some bytes) planned then_of replied replied_after put put_after counts.writes counts.writes_after
-    → (replied_after ≡ replied ++ bytes → Gains put put_after bytes → Comes planned hand rest asked replied replied_after put put_after made halted halted_after counts)
+    → (replied_after ≡ replied ++ bytes → Gains put put_after bytes → Comes planned hand rest asked replied replied_after put put_after made refused refused_after counts)
     → (Rose counts.writes counts.writes_after → ComesToEnd end.Fault hand rest asked bytes made counts)
-    → halted_after ≡ halted → Comes then_of hand rest asked replied replied_after put put_after made halted halted_after counts
-sent_some planned then_of bytes hand rest asked replied replied_after put put_after made halted halted_after counts (inl done) whole part goes =
-    subst (λ t. Comes t hand rest asked replied replied_after put put_after made halted halted_after counts) (sym done.0) (whole done.1 done.2)
-sent_some planned then_of bytes hand rest asked replied replied_after put put_after made halted halted_after counts (inr failed) whole part goes =
-    subst (λ t. Comes t hand rest asked replied replied_after put put_after made halted halted_after counts) (sym failed.0) (bytes, part failed.3, failed.1, failed.2, goes)
+    → refused_after ≡ refused → Comes then_of hand rest asked replied replied_after put put_after made refused refused_after counts
+sent_some planned then_of bytes hand rest asked replied replied_after put put_after made refused refused_after counts (inl done) whole part goes =
+    subst (λ t. Comes t hand rest asked replied replied_after put put_after made refused refused_after counts) (sym done.0) (whole done.1 done.2)
+sent_some planned then_of bytes hand rest asked replied replied_after put put_after made refused refused_after counts (inr failed) whole part goes =
+    subst (λ t. Comes t hand rest asked replied replied_after put put_after made refused refused_after counts) (sym failed.0) (bytes, part failed.3, failed.1, failed.2, goes)
 
 -- ---- by what was found
 
-answer_comes : (request : Request) (last : Bool) (bytes : List ℕ) (hand rest asked replied replied_after : List ℕ) (put put_after : Option (List ℕ)) (made : List Answer) (halted halted_after : Bool) (counts : Faults)
-    → request.last ≡ last → BeginsWith hand request rest → Answered request made bytes → halted_after ≡ halted
-    → replied_after ≡ replied ++ bytes → Gains put put_after bytes → Comes (then_after last) hand rest asked replied replied_after put put_after made halted halted_after counts
-answer_comes request true bytes hand rest asked replied replied_after put put_after made halted halted_after counts is begins answered goes replies gains =
+answer_comes : (request : Request) (last : Bool) (bytes : List ℕ) (hand rest asked replied replied_after : List ℕ) (put put_after : Option (List ℕ)) (made : List Answer) (refused refused_after : Option ControlCall) (counts : Faults)
+    → request.last ≡ last → BeginsWith hand request rest → Answered request made bytes → refused_after ≡ refused
+    → replied_after ≡ replied ++ bytes → Gains put put_after bytes → Comes (then_after last) hand rest asked replied replied_after put put_after made refused refused_after counts
+answer_comes request true bytes hand rest asked replied replied_after put put_after made refused refused_after counts is begins answered goes replies gains =
     (bytes, inl (request, begins, answered, sym (ap state_behind is)), replies, gains, goes)
-answer_comes request false bytes hand rest asked replied replied_after put put_after made halted halted_after counts is begins answered goes replies gains =
+answer_comes request false bytes hand rest asked replied replied_after put put_after made refused refused_after counts is begins answered goes replies gains =
     (bytes, inl (request, begins, answered, sym (ap state_behind is)), replies, gains, goes)
 
 empty_is : (rest : List ℕ) → (length rest == 0) ≡ true → rest ≡ []
@@ -112,155 +112,160 @@ end_comes false hand rest asked counts is same short below =
     (short, λ e. full_is rest (sym is) (same ∙ e), same, below, refl, refl)
 
 -- an end with no reply
-ends_silent : (how : SessionEnd) (planned : Then) (hand rest asked replied replied_after : List ℕ) (put put_after : Option (List ℕ)) (made : List Answer) (halted halted_after : Bool) (counts : Faults)
-    → planned ≡ then_is.End how → ComesToEnd how hand rest asked [] made counts → halted_after ≡ halted
-    → replied_after ≡ replied → put_after ≡ put → Comes planned hand rest asked replied replied_after put put_after made halted halted_after counts
-ends_silent how planned hand rest asked replied replied_after put put_after made halted halted_after counts is comes goes replies same =
-    subst (λ t. Comes t hand rest asked replied replied_after put put_after made halted halted_after counts) (sym is) ([], comes, replies, part_none put put_after same, goes)
+ends_silent : (how : SessionEnd) (planned : Then) (hand rest asked replied replied_after : List ℕ) (put put_after : Option (List ℕ)) (made : List Answer) (refused refused_after : Option ControlCall) (counts : Faults)
+    → planned ≡ then_is.End how → ComesToEnd how hand rest asked [] made counts → refused_after ≡ refused
+    → replied_after ≡ replied → put_after ≡ put → Comes planned hand rest asked replied replied_after put put_after made refused refused_after counts
+ends_silent how planned hand rest asked replied replied_after put put_after made refused refused_after counts is comes goes replies same =
+    subst (λ t. Comes t hand rest asked replied replied_after put put_after made refused refused_after counts) (sym is) ([], comes, replies, part_none put put_after same, goes)
 
-pub comes_is : (what : Found) (all : Bool) (response : Option (List ℕ)) (planned then_of : Then) (hand rest asked replied replied_after : List ℕ) (put put_after : Option (List ℕ)) (made : List Answer) (halted halted_after : Bool) (counts : Faults)
-    → IsFound what hand rest asked → all ≡ (length rest == 0) → Responds what all response planned made halted halted_after
+pub comes_is : (what : Found) (all : Bool) (response : Option (List ℕ)) (planned then_of : Then) (hand rest asked replied replied_after : List ℕ) (put put_after : Option (List ℕ)) (made : List Answer) (refused refused_after : Option ControlCall) (counts : Faults)
+    → IsFound what hand rest asked → all ≡ (length rest == 0) → Responds what all response planned made refused refused_after
     → Sends response planned then_of replied replied_after put put_after counts.writes counts.writes_after
     → IsCaused what counts.reads counts.reads_after
-    → Comes then_of hand rest asked replied replied_after put put_after made halted halted_after counts
-comes_is (found.Request request) all response planned then_of hand rest asked replied replied_after put put_after made halted halted_after counts is_found is_all (inl serves) sends caused =
-    sent_some planned then_of serves.0 hand rest asked replied replied_after put put_after made halted halted_after counts
+    → Comes then_of hand rest asked replied replied_after put put_after made refused refused_after counts
+comes_is (found.Request request) all response planned then_of hand rest asked replied replied_after put put_after made refused refused_after counts is_found is_all (inl serves) sends caused =
+    sent_some planned then_of serves.0 hand rest asked replied replied_after put put_after made refused refused_after counts
     (subst (λ r. Sends r planned then_of replied replied_after put put_after counts.writes counts.writes_after) serves.1 sends)
-    (λ replies gains. subst (λ t. Comes t hand rest asked replied replied_after put put_after made halted halted_after counts) (sym serves.2)
-    (answer_comes request request.last serves.0 hand rest asked replied replied_after put put_after made halted halted_after counts refl is_found serves.3 serves.4 replies gains))
+    (λ replies gains. subst (λ t. Comes t hand rest asked replied replied_after put put_after made refused refused_after counts) (sym serves.2)
+    (answer_comes request request.last serves.0 hand rest asked replied replied_after put put_after made refused refused_after counts refl is_found serves.3 serves.4 replies gains))
     (λ rose. inr (inr (request, is_found, serves.3, rose))) serves.4
-comes_is (found.Request request) all response planned then_of hand rest asked replied replied_after put put_after made halted halted_after counts is_found is_all (inr stops) sends caused =
-    sent_none planned then_of hand rest asked replied replied_after put put_after made halted halted_after counts
+comes_is (found.Request request) all response planned then_of hand rest asked replied replied_after put put_after made refused refused_after counts is_found is_all (inr stops) sends caused =
+    sent_none planned then_of hand rest asked replied replied_after put put_after made refused refused_after counts
     (subst (λ r. Sends r planned then_of replied replied_after put put_after counts.writes counts.writes_after) stops.0 sends)
-    (λ replies same. subst (λ t. Comes t hand rest asked replied replied_after put put_after made halted halted_after counts) (sym stops.1) (request, is_found, stops.2, replies, same, stops.3))
-comes_is (found.Bad rule) all response planned then_of hand rest asked replied replied_after put put_after made halted halted_after counts is_found is_all responds sends caused =
-    sent_some planned then_of (refusal_bytes rule true) hand rest asked replied replied_after put put_after made halted halted_after counts
+    (λ replies same. subst (λ t. Comes t hand rest asked replied replied_after put put_after made refused refused_after counts) (sym stops.1) (request, is_found, stops.2, replies, same))
+comes_is (found.Bad rule) all response planned then_of hand rest asked replied replied_after put put_after made refused refused_after counts is_found is_all responds sends caused =
+    sent_some planned then_of (refusal_bytes rule true) hand rest asked replied replied_after put put_after made refused refused_after counts
     (subst (λ r. Sends r planned then_of replied replied_after put put_after counts.writes counts.writes_after) responds.0 sends)
-    (λ replies gains. subst (λ t. Comes t hand rest asked replied replied_after put put_after made halted halted_after counts) (sym responds.1)
+    (λ replies gains. subst (λ t. Comes t hand rest asked replied replied_after put put_after made refused refused_after counts) (sym responds.1)
     (refusal_bytes rule true, inr (rule, is_found.0, is_found.1, responds.2, refl, refl), replies, gains, responds.3))
     (λ rose. inr (inl (rule, is_found.0, is_found.1, refl, responds.2, rose))) responds.3
-comes_is found.End all response planned then_of hand rest asked replied replied_after put put_after made halted halted_after counts is_found is_all responds sends caused =
-    sent_none planned then_of hand rest asked replied replied_after put put_after made halted halted_after counts
+comes_is found.End all response planned then_of hand rest asked replied replied_after put put_after made refused refused_after counts is_found is_all responds sends caused =
+    sent_none planned then_of hand rest asked replied replied_after put put_after made refused refused_after counts
     (subst (λ r. Sends r planned then_of replied replied_after put put_after counts.writes counts.writes_after) responds.0 sends)
-    (ends_silent (end_at all) planned hand rest asked replied replied_after put put_after made halted halted_after counts responds.1
+    (ends_silent (end_at all) planned hand rest asked replied replied_after put put_after made refused refused_after counts responds.1
     (subst (λ m. ComesToEnd (end_at all) hand rest asked [] m counts) (sym responds.2)
     (end_comes all hand rest asked counts is_all is_found.1 is_found.0 is_found.2)) responds.3)
-comes_is found.Fault all response planned then_of hand rest asked replied replied_after put put_after made halted halted_after counts is_found is_all responds sends caused =
-    sent_none planned then_of hand rest asked replied replied_after put put_after made halted halted_after counts
+comes_is found.Fault all response planned then_of hand rest asked replied replied_after put put_after made refused refused_after counts is_found is_all responds sends caused =
+    sent_none planned then_of hand rest asked replied replied_after put put_after made refused refused_after counts
     (subst (λ r. Sends r planned then_of replied replied_after put put_after counts.writes counts.writes_after) responds.0 sends)
-    (ends_silent end.Fault planned hand rest asked replied replied_after put put_after made halted halted_after counts responds.1
+    (ends_silent end.Fault planned hand rest asked replied replied_after put put_after made refused refused_after counts responds.1
     (inl (is_found.0, is_found.1, is_found.2, refl, responds.2, caused)) responds.3)
-comes_is found.Limit all response planned then_of hand rest asked replied replied_after put put_after made halted halted_after counts is_found is_all responds sends caused =
-    sent_none planned then_of hand rest asked replied replied_after put put_after made halted halted_after counts
+comes_is found.Limit all response planned then_of hand rest asked replied replied_after put put_after made refused refused_after counts is_found is_all responds sends caused =
+    sent_none planned then_of hand rest asked replied replied_after put put_after made refused refused_after counts
     (subst (λ r. Sends r planned then_of replied replied_after put put_after counts.writes counts.writes_after) responds.0 sends)
-    (ends_silent end.Limit planned hand rest asked replied replied_after put put_after made halted halted_after counts responds.1
+    (ends_silent end.Limit planned hand rest asked replied replied_after put put_after made refused refused_after counts responds.1
     (is_found.0, is_found.1, is_found.2, refl, responds.2) responds.3)
 
 -- ---- what is said at last
 
-ends_by : (how : SessionEnd) (hand rest asked unsent : List ℕ) (calls : List Answer) (bye : Answer) (counts : Faults)
+ends_by : (how : SessionEnd) (hand rest asked unsent : List ℕ) (calls : List Answer) (bye : Answer) (refused_after : Option ControlCall) (counts : Faults)
     → ComesToEnd how hand rest asked unsent calls counts → bye.call ≡ call.Bye
-    → EndsBy how hand rest asked unsent (calls ++ bye ∷ []) counts
-ends_by end.Ended hand rest asked unsent calls bye counts comes is = (calls, bye, comes, is, refl)
-ends_by end.Cut hand rest asked unsent calls bye counts comes is = (calls, bye, comes, is, refl)
-ends_by end.Fault hand rest asked unsent calls bye counts comes is = (calls, bye, comes, is, refl)
-ends_by end.Limit hand rest asked unsent calls bye counts comes is = (calls, bye, comes, is, refl)
-ends_by end.Bad hand rest asked unsent calls bye counts comes is = absurd comes
-ends_by end.Closed hand rest asked unsent calls bye counts comes is = absurd comes
-ends_by end.Stopped hand rest asked unsent calls bye counts comes is = absurd comes
+    → EndsBy how hand rest asked unsent (calls ++ bye ∷ []) refused_after counts
+ends_by end.Ended hand rest asked unsent calls bye refused_after counts comes is = (calls, bye, comes, is, refl)
+ends_by end.Cut hand rest asked unsent calls bye refused_after counts comes is = (calls, bye, comes, is, refl)
+ends_by end.Fault hand rest asked unsent calls bye refused_after counts comes is = (calls, bye, comes, is, refl)
+ends_by end.Limit hand rest asked unsent calls bye refused_after counts comes is = (calls, bye, comes, is, refl)
+ends_by end.Bad hand rest asked unsent calls bye refused_after counts comes is = absurd comes
+ends_by end.Closed hand rest asked unsent calls bye refused_after counts comes is = absurd comes
+ends_by end.Stopped hand rest asked unsent calls bye refused_after counts comes is = absurd comes
 
-halts_end : (how : SessionEnd) (hand rest asked unsent : List ℕ) (made : List Answer) (counts : Faults) (halted halted_after : Bool)
-    → ComesToEnd how hand rest asked unsent made counts → halted_after ≡ halted → Halts (next.Ended how) halted halted_after
-halts_end end.Ended hand rest asked unsent made counts halted halted_after comes goes = goes
-halts_end end.Cut hand rest asked unsent made counts halted halted_after comes goes = goes
-halts_end end.Fault hand rest asked unsent made counts halted halted_after comes goes = goes
-halts_end end.Limit hand rest asked unsent made counts halted halted_after comes goes = goes
-halts_end end.Bad hand rest asked unsent made counts halted halted_after comes goes = absurd comes
-halts_end end.Closed hand rest asked unsent made counts halted halted_after comes goes = absurd comes
-halts_end end.Stopped hand rest asked unsent made counts halted halted_after comes goes = absurd comes
+refuses_end : (how : SessionEnd) (hand rest asked unsent : List ℕ) (made : List Answer) (counts : Faults) (refused refused_after : Option ControlCall)
+    → ComesToEnd how hand rest asked unsent made counts → refused_after ≡ refused → Refuses (next.Ended how) refused refused_after
+refuses_end end.Ended hand rest asked unsent made counts refused refused_after comes goes = goes
+refuses_end end.Cut hand rest asked unsent made counts refused refused_after comes goes = goes
+refuses_end end.Fault hand rest asked unsent made counts refused refused_after comes goes = goes
+refuses_end end.Limit hand rest asked unsent made counts refused refused_after comes goes = goes
+refuses_end end.Bad hand rest asked unsent made counts refused refused_after comes goes = absurd comes
+refuses_end end.Closed hand rest asked unsent made counts refused refused_after comes goes = absurd comes
+refuses_end end.Stopped hand rest asked unsent made counts refused refused_after comes goes = absurd comes
 
 -- the calls and the reply, and where the session stands
-pub record Said (stands : State) (hand rest asked replied replied_after : List ℕ) (put put_after : Option (List ℕ)) (answers answers_after : List Answer) (halted halted_after : Bool) (counts : Faults) : Type 0 where
+pub record Said (stands : State) (hand rest asked replied replied_after : List ℕ) (put put_after : Option (List ℕ)) (answers answers_after : List Answer) (refused refused_after : Option ControlCall) (counts : Faults) : Type 0 where
   pub made : List Answer
   pub reply : List ℕ
   pub calls : answers_after ≡ answers ++ made
   pub replies : replied_after ≡ replied ++ reply
-  pub outcome : Outcome (said_at stands) stands hand rest asked reply made put put_after counts
-  pub halts : Halts (said_at stands) halted halted_after
+  pub outcome : Outcome (said_at stands) stands hand rest asked reply made refused_after put put_after counts
+  pub refuses : Refuses (said_at stands) refused refused_after
 
 said_is : (then_of : Then) (stands : State) (hand rest asked replied replied_after : List ℕ) (put put_after : Option (List ℕ))
-    (first middle after made : List Answer) (halted halted_then halted_after : Bool) (counts : Faults) → middle ≡ first ++ made
-    → Comes then_of hand rest asked replied replied_after put put_after made halted halted_then counts
-    → Finishes then_of stands middle after halted_then halted_after
-    → Said stands hand rest asked replied replied_after put put_after first after halted halted_after counts
-said_is then_is.GoOn stands hand rest asked replied replied_after put put_after first middle after made halted halted_then halted_after counts is comes finishes = record {
+    (first middle after made : List Answer) (refused refused_then refused_after : Option ControlCall) (counts : Faults) → middle ≡ first ++ made
+    → Comes then_of hand rest asked replied replied_after put put_after made refused refused_then counts
+    → Finishes then_of stands middle after refused_then refused_after
+    → Said stands hand rest asked replied replied_after put put_after first after refused refused_after counts
+said_is then_is.GoOn stands hand rest asked replied replied_after put put_after first middle after made refused refused_then refused_after counts is comes finishes = record {
   made = made;
   reply = comes.0;
   calls = finishes.1 ∙ is;
   replies = comes.2;
-  outcome = subst (λ s. Outcome (said_at s) s hand rest asked comes.0 made put put_after counts) (sym finishes.0) (comes.1, comes.3);
-  halts = subst (λ s. Halts (said_at s) halted halted_after) (sym finishes.0) (finishes.2 ∙ comes.4);
+  outcome = subst (λ s. Outcome (said_at s) s hand rest asked comes.0 made refused_after put put_after counts) (sym finishes.0) (comes.1, comes.3);
+  refuses = subst (λ s. Refuses (said_at s) refused refused_after) (sym finishes.0) (finishes.2 ∙ comes.4);
 }
-said_is (then_is.Leave how) stands hand rest asked replied replied_after put put_after first middle after made halted halted_then halted_after counts is comes finishes = record {
+said_is (then_is.Leave how) stands hand rest asked replied replied_after put put_after first middle after made refused refused_then refused_after counts is comes finishes = record {
   made = made;
   reply = comes.0;
   calls = finishes.1 ∙ is;
   replies = comes.2;
-  outcome = subst (λ s. Outcome (said_at s) s hand rest asked comes.0 made put put_after counts) (sym finishes.0) (comes.1, comes.3);
-  halts = subst (λ s. Halts (said_at s) halted halted_after) (sym finishes.0) (finishes.2 ∙ comes.4);
+  outcome = subst (λ s. Outcome (said_at s) s hand rest asked comes.0 made refused_after put put_after counts) (sym finishes.0) (comes.1, comes.3);
+  refuses = subst (λ s. Refuses (said_at s) refused refused_after) (sym finishes.0) (finishes.2 ∙ comes.4);
 }
-said_is then_is.Stop stands hand rest asked replied replied_after put put_after first middle after made halted halted_then halted_after counts is comes finishes = record {
+said_is then_is.Stop stands hand rest asked replied replied_after put put_after first middle after made refused refused_then refused_after counts is comes finishes = record {
   made = made;
   reply = [];
   calls = finishes.1 ∙ is;
   replies = comes.3 ∙ sym (append-nil replied);
-  outcome = subst (λ s. Outcome (said_at s) s hand rest asked [] made put put_after counts) (sym finishes.0)
-      ([], refl, refl, inl (comes.0, comes.1, comes.2, refl), part_none put put_after comes.4);
-  halts = subst (λ s. Halts (said_at s) halted halted_after) (sym finishes.0) (finishes.2 ∙ comes.5);
+  outcome = subst (λ s. Outcome (said_at s) s hand rest asked [] made refused_after put put_after counts) (sym finishes.0) (
+    [],
+    refl,
+    refl,
+    inl (comes.0, comes.1, subst (λ r. StopsIn comes.0 made r) (sym finishes.2) comes.2, refl),
+    part_none put put_after comes.4,
+  );
+  refuses = subst (λ s. Refuses (said_at s) refused refused_after) (sym finishes.0) tt;
 }
-said_is (then_is.End how) stands hand rest asked replied replied_after put put_after first middle after made halted halted_then halted_after counts is comes (came, stands_is, inl byes) = record {
+said_is (then_is.End how) stands hand rest asked replied replied_after put put_after first middle after made refused refused_then refused_after counts is comes (came, stands_is, inl byes) = record {
   made = made ++ byes.0 ∷ [];
   reply = [];
   calls = byes.3 ∙ ap (λ l. l ++ byes.0 ∷ []) is ∙ append_assoc first made (byes.0 ∷ []);
   replies = comes.2 ∙ sym (append-nil replied);
-  outcome = subst (λ s. Outcome (said_at s) s hand rest asked [] (made ++ byes.0 ∷ []) put put_after counts)
+  outcome = subst (λ s. Outcome (said_at s) s hand rest asked [] (made ++ byes.0 ∷ []) refused_after put put_after counts)
       (sym (stands_is ∙ ap (λ e. state.Ended e) byes.1))
-      (comes.0, refl, refl, ends_by how hand rest asked comes.0 made byes.0 counts comes.1 byes.2, comes.3);
-  halts = subst (λ s. Halts (said_at s) halted halted_after) (sym (stands_is ∙ ap (λ e. state.Ended e) byes.1))
-      (halts_end how hand rest asked comes.0 made counts halted halted_after comes.1 (byes.4 ∙ comes.4));
+      (comes.0, refl, refl, ends_by how hand rest asked comes.0 made byes.0 refused_after counts comes.1 byes.2, comes.3);
+  refuses = subst (λ s. Refuses (said_at s) refused refused_after) (sym (stands_is ∙ ap (λ e. state.Ended e) byes.1))
+      (refuses_end how hand rest asked comes.0 made counts refused refused_after comes.1 (byes.4 ∙ comes.4));
 }
-said_is (then_is.End how) stands hand rest asked replied replied_after put put_after first middle after made halted halted_then halted_after counts is comes (came, stands_is, inr stops) = record {
+said_is (then_is.End how) stands hand rest asked replied replied_after put put_after first middle after made refused refused_then refused_after counts is comes (came, stands_is, inr stops) = record {
   made = made;
   reply = [];
   calls = stops.1 ∙ is;
   replies = comes.2 ∙ sym (append-nil replied);
-  outcome = subst (λ s. Outcome (said_at s) s hand rest asked [] made put put_after counts)
-      (sym (stands_is ∙ ap (λ e. state.Ended e) stops.0)) (comes.0, refl, refl, inr (how, comes.1), comes.3);
-  halts = subst (λ s. Halts (said_at s) halted halted_after) (sym (stands_is ∙ ap (λ e. state.Ended e) stops.0)) stops.2;
+  outcome = subst (λ s. Outcome (said_at s) s hand rest asked [] made refused_after put put_after counts)
+      (sym (stands_is ∙ ap (λ e. state.Ended e) stops.0)) (comes.0, refl, refl, inr (how, comes.1, stops.2), comes.3);
+  refuses = subst (λ s. Refuses (said_at s) refused refused_after) (sym (stands_is ∙ ap (λ e. state.Ended e) stops.0)) tt;
 }
 
 -- ---- a step
 
 -- all that a step knows before its last part
-pub record Turn (what : Found) (then_of : Then) (asked asked_after rest rest_after replied replied_after : List ℕ) (put put_after : Option (List ℕ)) (first middle : List Answer) (halted halted_then : Bool) (counts : Faults) : Type 0 where
+pub record Turn (what : Found) (then_of : Then) (asked asked_after rest rest_after replied replied_after : List ℕ) (put put_after : Option (List ℕ)) (first middle : List Answer) (refused refused_then : Option ControlCall) (counts : Faults) : Type 0 where
   pub more : List ℕ
   pub made : List Answer
   pub takes : asked_after ≡ asked ++ more
   pub calls : middle ≡ first ++ made
-  pub comes : Comes then_of (rest ++ more) rest_after asked_after replied replied_after put put_after made halted halted_then counts
+  pub comes : Comes then_of (rest ++ more) rest_after asked_after replied replied_after put put_after made refused refused_then counts
 
 pub turn_is : (what : Found) (all : Bool) (response : Option (List ℕ)) (planned then_of : Then)
     (asked asked_after rest rest_after replied replied_after : List ℕ) (first middle : List Answer) (put put_then put_now put_after : Option (List ℕ))
-    (reads reads_then reads_after writes writes_then writes_now writes_after : ℕ) (halted halted_then : Bool)
+    (reads reads_then reads_after writes writes_then writes_now writes_after : ℕ) (refused refused_then : Option ControlCall)
     → Finds what asked asked_after rest rest_after → IsCaused what reads reads_then → reads_then ≤ reads_after
     → all ≡ (length rest_after == 0)
-    → HasMadeAlso first middle (λ made. Responds what all response planned made halted halted_then)
+    → HasMadeAlso first middle (λ made. Responds what all response planned made refused refused_then)
     → put_then ≡ put → writes ≤ writes_then
     → Sends response planned then_of replied replied_after put_then put_now writes_then writes_now
     → put_after ≡ put_now → writes_now ≤ writes_after
-    → Turn what then_of asked asked_after rest rest_after replied replied_after put put_after first middle halted halted_then
+    → Turn what then_of asked asked_after rest rest_after replied replied_after put put_after first middle refused refused_then
     (faults reads reads_after writes writes_after)
-turn_is what all response planned then_of asked asked_after rest rest_after replied replied_after first middle put put_then put_now put_after reads reads_then reads_after writes writes_then writes_now writes_after halted halted_then finds caused reads_later is_all responds first_puts earlier sends last_puts later =
+turn_is what all response planned then_of asked asked_after rest rest_after replied replied_after first middle put put_then put_now put_after reads reads_then reads_after writes writes_then writes_now writes_after refused refused_then finds caused reads_later is_all responds first_puts earlier sends last_puts later =
     let sends_first = subst (λ p. Sends response planned then_of replied replied_after p put_now writes_then writes_now) first_puts sends in
     let sends_last = subst (λ p. Sends response planned then_of replied replied_after put p writes_then writes_now) (sym last_puts) sends_first in
     record {
@@ -269,19 +274,19 @@ turn_is what all response planned then_of asked asked_after rest rest_after repl
       takes = finds.1;
       calls = responds.1;
       comes = comes_is what all response planned then_of (rest ++ finds.0) rest_after asked_after replied replied_after put put_after
-          responds.0 halted halted_then (faults reads reads_after writes writes_after) finds.2 is_all responds.2
+          responds.0 refused refused_then (faults reads reads_after writes writes_after) finds.2 is_all responds.2
           (sends_within response planned then_of replied replied_after put put_after writes writes_then writes_now writes_after earlier later sends_last)
           (caused_later what reads reads_then reads_after caused reads_later);
     }
 
 pub step_is : (what : Found) (then_of : Then) (stands : State) (asked asked_after rest rest_after replied replied_after : List ℕ)
-    (put put_after : Option (List ℕ)) (first middle after : List Answer) (halted halted_then halted_after : Bool) (counts : Faults)
-    → Turn what then_of asked asked_after rest rest_after replied replied_after put put_after first middle halted halted_then counts
-    → Finishes then_of stands middle after halted_then halted_after
-    → Step (said_at stands) stands asked asked_after rest rest_after replied replied_after first after put put_after counts
-step_is what then_of stands asked asked_after rest rest_after replied replied_after put put_after first middle after halted halted_then halted_after counts turn finishes =
+    (put put_after : Option (List ℕ)) (first middle after : List Answer) (refused refused_then refused_after : Option ControlCall) (counts : Faults)
+    → Turn what then_of asked asked_after rest rest_after replied replied_after put put_after first middle refused refused_then counts
+    → Finishes then_of stands middle after refused_then refused_after
+    → Step (said_at stands) stands asked asked_after rest rest_after replied replied_after first after refused refused_after put put_after counts
+step_is what then_of stands asked asked_after rest rest_after replied replied_after put put_after first middle after refused refused_then refused_after counts turn finishes =
     let said = said_is then_of stands (rest ++ turn.more) rest_after asked_after replied replied_after put put_after first middle after
-    turn.made halted halted_then halted_after counts turn.calls turn.comes finishes in
+    turn.made refused refused_then refused_after counts turn.calls turn.comes finishes in
     record {
       more = turn.more;
       made = said.made;
@@ -290,16 +295,8 @@ step_is what then_of stands asked asked_after rest rest_after replied replied_af
       calls = said.calls;
       replies = said.replies;
       outcome = said.outcome;
+      refuses = said.refuses;
     }
-
-pub halts_is : (what : Found) (then_of : Then) (stands : State) (asked asked_after rest rest_after replied replied_after : List ℕ)
-    (put put_after : Option (List ℕ)) (first middle after : List Answer) (halted halted_then halted_after : Bool) (counts : Faults)
-    → Turn what then_of asked asked_after rest rest_after replied replied_after put put_after first middle halted halted_then counts
-    → Finishes then_of stands middle after halted_then halted_after
-    → Halts (said_at stands) halted halted_after
-halts_is what then_of stands asked asked_after rest rest_after replied replied_after put put_after first middle after halted halted_then halted_after counts turn finishes =
-    (said_is then_of stands (rest ++ turn.more) rest_after asked_after replied replied_after put put_after first middle after
-    turn.made halted halted_then halted_after counts turn.calls turn.comes finishes).halts
 
 -- ---- want of memory
 
@@ -343,44 +340,49 @@ breaks_making what asked asked_after rest rest_after replied replied_after answe
   place = breaks_on what (rest ++ finds.0) rest_after asked_after breaks.0 counts finds.2 breaks.2;
 }
 
-responds_breaks : (what : Found) (all : Bool) (response : Option (List ℕ)) (planned : Then) (made : List Answer) (halted halted_after : Bool)
-    → Responds what all response planned made halted halted_after → BreaksOn what made
-responds_breaks (found.Request request) all response planned made halted halted_after (inl serves) = inr (serves.0, serves.3)
-responds_breaks (found.Request request) all response planned made halted halted_after (inr stops) = inl stops.2
-responds_breaks (found.Bad rule) all response planned made halted halted_after responds = responds.2
-responds_breaks found.End all response planned made halted halted_after responds = responds.2
-responds_breaks found.Fault all response planned made halted halted_after responds = responds.2
-responds_breaks found.Limit all response planned made halted halted_after responds = responds.2
+stops_break : (request : Request) (made : List Answer) (refused_after : Option ControlCall) → StopsIn request made refused_after
+    → BreaksIn request made
+stops_break request made refused_after (c, asks, inl none) = inl none.0
+stops_break request made refused_after (c, asks, inr held) = inr (inl (c, asks, held.0))
+
+responds_breaks : (what : Found) (all : Bool) (response : Option (List ℕ)) (planned : Then) (made : List Answer) (refused refused_after : Option ControlCall)
+    → Responds what all response planned made refused refused_after → BreaksOn what made
+responds_breaks (found.Request request) all response planned made refused refused_after (inl serves) = inr (inr (serves.0, serves.3))
+responds_breaks (found.Request request) all response planned made refused refused_after (inr stops) = stops_break request made refused_after stops.2
+responds_breaks (found.Bad rule) all response planned made refused refused_after responds = responds.2
+responds_breaks found.End all response planned made refused refused_after responds = responds.2
+responds_breaks found.Fault all response planned made refused refused_after responds = responds.2
+responds_breaks found.Limit all response planned made refused refused_after responds = responds.2
 
 -- before the reply was put
 pub breaks_sending : (what : Found) (all : Bool) (response : Option (List ℕ)) (planned : Then)
     (asked asked_after rest rest_after replied replied_after : List ℕ) (answers answers_after : List Answer)
-    (put put_after : Option (List ℕ)) (halted halted_after : Bool) (counts : Faults) → Finds what asked asked_after rest rest_after
-    → HasMadeAlso answers answers_after (λ made. Responds what all response planned made halted halted_after)
+    (put put_after : Option (List ℕ)) (refused refused_after : Option ControlCall) (counts : Faults) → Finds what asked asked_after rest rest_after
+    → HasMadeAlso answers answers_after (λ made. Responds what all response planned made refused refused_after)
     → replied_after ≡ replied → put_after ≡ put
     → Breaks asked asked_after rest replied replied_after answers answers_after put put_after counts
-breaks_sending what all response planned asked asked_after rest rest_after replied replied_after answers answers_after put put_after halted halted_after counts finds responds replies same =
+breaks_sending what all response planned asked asked_after rest rest_after replied replied_after answers answers_after put put_after refused refused_after counts finds responds replies same =
     breaks_making what asked asked_after rest rest_after replied replied_after answers answers_after put put_after counts finds
-    (responds.0, responds.1, responds_breaks what all response planned responds.0 halted halted_after responds.2) replies same
+    (responds.0, responds.1, responds_breaks what all response planned responds.0 refused refused_after responds.2) replies same
 
 end_breaks : (then_of : Then) (hand rest asked replied replied_after : List ℕ) (put put_after : Option (List ℕ)) (made : List Answer)
-    (halted halted_after : Bool) (counts : Faults)
-    → Comes then_of hand rest asked replied replied_after put put_after made halted halted_after counts → IsEnd then_of
+    (refused refused_after : Option ControlCall) (counts : Faults)
+    → Comes then_of hand rest asked replied replied_after put put_after made refused refused_after counts → IsEnd then_of
     → (how : SessionEnd) × (unsent : List ℕ) × ComesToEnd how hand rest asked unsent made counts × (replied_after ≡ replied)
-    × GainsPart put put_after unsent × (halted_after ≡ halted)
-end_breaks (then_is.End how) hand rest asked replied replied_after put put_after made halted halted_after counts comes is = (how, comes.0, comes.1, comes.2, comes.3, comes.4)
-end_breaks then_is.GoOn hand rest asked replied replied_after put put_after made halted halted_after counts comes is = absurd is
-end_breaks (then_is.Leave how) hand rest asked replied replied_after put put_after made halted halted_after counts comes is = absurd is
-end_breaks then_is.Stop hand rest asked replied replied_after put put_after made halted halted_after counts comes is = absurd is
+    × GainsPart put put_after unsent × (refused_after ≡ refused)
+end_breaks (then_is.End how) hand rest asked replied replied_after put put_after made refused refused_after counts comes is = (how, comes.0, comes.1, comes.2, comes.3, comes.4)
+end_breaks then_is.GoOn hand rest asked replied replied_after put put_after made refused refused_after counts comes is = absurd is
+end_breaks (then_is.Leave how) hand rest asked replied replied_after put put_after made refused refused_after counts comes is = absurd is
+end_breaks then_is.Stop hand rest asked replied replied_after put put_after made refused refused_after counts comes is = absurd is
 
 -- at the Bye
 pub breaks_ending : (what : Found) (then_of : Then) (asked asked_after rest rest_after replied replied_after : List ℕ)
-    (put put_after : Option (List ℕ)) (first middle after : List Answer) (halted halted_then : Bool) (counts : Faults)
-    → Turn what then_of asked asked_after rest rest_after replied replied_after put put_after first middle halted halted_then counts
+    (put put_after : Option (List ℕ)) (first middle after : List Answer) (refused refused_then : Option ControlCall) (counts : Faults)
+    → Turn what then_of asked asked_after rest rest_after replied replied_after put put_after first middle refused refused_then counts
     → IsEnd then_of → after ≡ middle
     → Breaks asked asked_after rest replied replied_after first after put put_after counts
-breaks_ending what then_of asked asked_after rest rest_after replied replied_after put put_after first middle after halted halted_then counts turn is same =
-    let breaks = end_breaks then_of (rest ++ turn.more) rest_after asked_after replied replied_after put put_after turn.made halted halted_then counts turn.comes is in
+breaks_ending what then_of asked asked_after rest rest_after replied replied_after put put_after first middle after refused refused_then counts turn is same =
+    let breaks = end_breaks then_of (rest ++ turn.more) rest_after asked_after replied replied_after put put_after turn.made refused refused_then counts turn.comes is in
     record {
       more = turn.more;
       made = turn.made;

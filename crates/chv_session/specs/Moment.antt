@@ -1,22 +1,23 @@
 -- What the caller of `next` sees of a session and of what it works at.
-use Rattle.std.specs.Prelude.{ℕ, Bool, List, Option}
+use Rattle.std.specs.Prelude.{ℕ, List, Option}
+use Rattle.chv_defs.specs.declared.control.ControlCall.{ControlCall}
 use Rattle.chv_defs.specs.Desks.{Answer}
 use Rattle.chv_session.specs.Talk.{Talk}
 
--- A session; the calls that its caller has made, and whether the desk tells that the run stopped; what was put into its
--- connection, where that is told, and the connection's counts of failed reads and of failed writes.
+-- A session; the calls that its caller has made, and the last one that was answered Stopped, where one was; what was put
+-- into its connection, where that is told, and the connection's counts of failed reads and of failed writes.
 pub record Moment : Type 0 where
   pub talk : Talk
   pub answers : List Answer
-  pub halted : Bool
+  pub refused : Option ControlCall
   pub put : Option (List ℕ)
   pub reads : ℕ
   pub writes : ℕ
 
 -- these together
-abbrev pub moment : Talk → List Answer → Bool → Option (List ℕ) → ℕ → ℕ → Moment
-moment talk answers halted put reads writes =
-    record { talk = talk; answers = answers; halted = halted; put = put; reads = reads; writes = writes }
+abbrev pub moment : Talk → List Answer → Option ControlCall → Option (List ℕ) → ℕ → ℕ → Moment
+moment talk answers refused put reads writes =
+    record { talk = talk; answers = answers; refused = refused; put = put; reads = reads; writes = writes }
 
 -- The two counts of a connection's faults, before a call and after it.
 pub record Faults : Type 0 where

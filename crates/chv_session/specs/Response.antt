@@ -20,15 +20,18 @@ use Rattle.chv_session.specs.declared.state.State.TheVariants as state
 abbrev pub HasMadeAlso : List Answer → List Answer → (List Answer → Type 0) → Type 0
 HasMadeAlso before after P = (made : List Answer) × (after ≡ before ++ made) × P made
 
--- The run stopped in a request: before its call was made, or before the Settle of a call that was answered Holding.
-abbrev pub StopsIn : Request → List Answer → Type 0
-StopsIn request made =
-    (made ≡ []) ⊎ ((c : ControlCall) × (call_of_request request ≡ Ok c) × Holds c made)
+-- The run stopped in a request: its call was answered Stopped, or the Settle of its call, which was answered Holding.
+abbrev pub StopsIn : Request → List Answer → Option ControlCall → Type 0
+StopsIn request made refused =
+    (c : ControlCall) × (call_of_request request ≡ Ok c)
+    × (((made ≡ []) × (refused ≡ Some c)) ⊎ (Holds c made × (refused ≡ Some call.Settle)))
 
 -- Memory was wanting in a request, before its reply was put: before its call was made, before the Settle of a call that
 -- was answered Holding, or behind all its calls.
 abbrev pub BreaksIn : Request → List Answer → Type 0
-BreaksIn request made = StopsIn request made ⊎ ((reply : List ℕ) × Answered request made reply)
+BreaksIn request made =
+    (made ≡ []) ⊎ ((c : ControlCall) × (call_of_request request ≡ Ok c) × Holds c made)
+    ⊎ ((reply : List ℕ) × Answered request made reply)
 
 -- what comes behind the reply to a request: the session leaves, where that is the last one
 abbrev pub then_after : Bool → Then
@@ -36,10 +39,10 @@ then_after true = then_is.Leave end.Closed
 then_after false = then_is.GoOn
 
 -- A request is answered, or the run stopped in it, as the desk tells before and after.
-abbrev pub Serves : Request → Option (List ℕ) → Then → List Answer → Bool → Bool → Type 0
-Serves request reply after made halted halted_after =
-    ((bytes : List ℕ) × (reply ≡ Some bytes) × (after ≡ then_after request.last) × Answered request made bytes × (halted_after ≡ halted))
-    ⊎ ((reply ≡ None) × (after ≡ then_is.Stop) × StopsIn request made × (halted_after ≡ true))
+abbrev pub Serves : Request → Option (List ℕ) → Then → List Answer → Option ControlCall → Option ControlCall → Type 0
+Serves request reply after made refused refused_after =
+    ((bytes : List ℕ) × (reply ≡ Some bytes) × (after ≡ then_after request.last) × Answered request made bytes × (refused_after ≡ refused))
+    ⊎ ((reply ≡ None) × (after ≡ then_is.Stop) × StopsIn request made refused_after)
 
 -- the end where a stream ended: whether all of it was answered
 abbrev pub end_at : Bool → SessionEnd
@@ -47,17 +50,17 @@ end_at true = end.Ended
 end_at false = end.Cut
 
 -- What a session responds to what it found, where all bytes are answered or not: the reply, what comes then, the calls
--- that it made, and whether the run stopped.
-abbrev pub Responds : Found → Bool → Option (List ℕ) → Then → List Answer → Bool → Bool → Type 0
-Responds (found.Request request) all reply after made halted halted_after = Serves request reply after made halted halted_after
-Responds (found.Bad rule) all reply after made halted halted_after =
-    (reply ≡ Some (refusal_bytes rule true)) × (after ≡ then_is.Leave end.Bad) × (made ≡ []) × (halted_after ≡ halted)
-Responds found.End all reply after made halted halted_after =
-    (reply ≡ None) × (after ≡ then_is.End (end_at all)) × (made ≡ []) × (halted_after ≡ halted)
-Responds found.Fault all reply after made halted halted_after =
-    (reply ≡ None) × (after ≡ then_is.End end.Fault) × (made ≡ []) × (halted_after ≡ halted)
-Responds found.Limit all reply after made halted halted_after =
-    (reply ≡ None) × (after ≡ then_is.End end.Limit) × (made ≡ []) × (halted_after ≡ halted)
+-- that it made, and the call that was answered Stopped.
+abbrev pub Responds : Found → Bool → Option (List ℕ) → Then → List Answer → Option ControlCall → Option ControlCall → Type 0
+Responds (found.Request request) all reply after made refused refused_after = Serves request reply after made refused refused_after
+Responds (found.Bad rule) all reply after made refused refused_after =
+    (reply ≡ Some (refusal_bytes rule true)) × (after ≡ then_is.Leave end.Bad) × (made ≡ []) × (refused_after ≡ refused)
+Responds found.End all reply after made refused refused_after =
+    (reply ≡ None) × (after ≡ then_is.End (end_at all)) × (made ≡ []) × (refused_after ≡ refused)
+Responds found.Fault all reply after made refused refused_after =
+    (reply ≡ None) × (after ≡ then_is.End end.Fault) × (made ≡ []) × (refused_after ≡ refused)
+Responds found.Limit all reply after made refused refused_after =
+    (reply ≡ None) × (after ≡ then_is.End end.Limit) × (made ≡ []) × (refused_after ≡ refused)
 
 -- The calls that were made of what was found, where memory was wanting before a reply was there.
 abbrev pub BreaksOn : Found → List Answer → Type 0
@@ -79,20 +82,20 @@ is_bye call.Bye = true
 is_bye _ = false
 
 -- The Bye of an end is answered; or the run stopped there, and the end is Stopped, as the desk tells before and after.
-abbrev pub Leaves : SessionEnd → SessionEnd → List Answer → List Answer → Bool → Bool → Type 0
-Leaves how came before after halted halted_after =
-    ((bye : Answer) × (came ≡ how) × (bye.call ≡ call.Bye) × (after ≡ before ++ bye ∷ []) × (halted_after ≡ halted))
-    ⊎ ((came ≡ end.Stopped) × (after ≡ before) × (halted_after ≡ true))
+abbrev pub Leaves : SessionEnd → SessionEnd → List Answer → List Answer → Option ControlCall → Option ControlCall → Type 0
+Leaves how came before after refused refused_after =
+    ((bye : Answer) × (came ≡ how) × (bye.call ≡ call.Bye) × (after ≡ before ++ bye ∷ []) × (refused_after ≡ refused))
+    ⊎ ((came ≡ end.Stopped) × (after ≡ before) × (refused_after ≡ Some call.Bye))
 
 -- Where a session stands at last. An end is made known by a Bye; a session that leaves makes it later.
-abbrev pub Finishes : Then → State → List Answer → List Answer → Bool → Bool → Type 0
-Finishes then_is.GoOn stands before after halted halted_after = (stands ≡ state.Open) × (after ≡ before) × (halted_after ≡ halted)
-Finishes (then_is.Leave how) stands before after halted halted_after =
-    (stands ≡ state.Leaving how) × (after ≡ before) × (halted_after ≡ halted)
-Finishes then_is.Stop stands before after halted halted_after =
-    (stands ≡ state.Ended end.Stopped) × (after ≡ before) × (halted_after ≡ halted)
-Finishes (then_is.End how) stands before after halted halted_after =
-    (came : SessionEnd) × (stands ≡ state.Ended came) × Leaves how came before after halted halted_after
+abbrev pub Finishes : Then → State → List Answer → List Answer → Option ControlCall → Option ControlCall → Type 0
+Finishes then_is.GoOn stands before after refused refused_after = (stands ≡ state.Open) × (after ≡ before) × (refused_after ≡ refused)
+Finishes (then_is.Leave how) stands before after refused refused_after =
+    (stands ≡ state.Leaving how) × (after ≡ before) × (refused_after ≡ refused)
+Finishes then_is.Stop stands before after refused refused_after =
+    (stands ≡ state.Ended end.Stopped) × (after ≡ before) × (refused_after ≡ refused)
+Finishes (then_is.End how) stands before after refused refused_after =
+    (came : SessionEnd) × (stands ≡ state.Ended came) × Leaves how came before after refused refused_after
 
 -- an end is made known by a Bye
 abbrev pub IsEnd : Then → Type 0

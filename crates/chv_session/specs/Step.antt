@@ -1,7 +1,8 @@
 -- What one call of `next` brings about.
-use Rattle.std.specs.Prelude.{◌≡◌, ◌≢◌, ◌<◌, ◌⊎◌, ⊤, ℕ, Bool, true, false, List, [], ◌∷◌, ◌++◌, length, Option}
+use Rattle.std.specs.Prelude.{◌≡◌, ◌≢◌, ◌<◌, ◌⊎◌, ⊤, ℕ, Bool, true, false, List, [], ◌∷◌, ◌++◌, length, Option, Some}
 use Rattle.chv_defs.specs.declared.rule.Rule.{Rule}
 use Rattle.chv_defs.specs.declared.request.Request.{Request}
+use Rattle.chv_defs.specs.declared.control.ControlCall.{ControlCall}
 use Rattle.chv_defs.specs.declared.control.ControlCall.TheVariants as call
 use Rattle.chv_defs.specs.declared.session.SessionEnd.{SessionEnd}
 use Rattle.chv_defs.specs.declared.session.SessionEnd.TheVariants as end
@@ -69,45 +70,45 @@ ComesToEnd end.Bad hand rest asked unsent calls counts = ⊥
 ComesToEnd end.Closed hand rest asked unsent calls counts = ⊥
 ComesToEnd end.Stopped hand rest asked unsent calls counts = ⊥
 
--- The run stopped in a request, or at the Bye of another end.
-abbrev pub Stops : List ℕ → List ℕ → List ℕ → List ℕ → List Answer → Faults → Type 0
-Stops hand rest asked unsent made counts =
-    ((request : Request) × BeginsWith hand request rest × StopsIn request made × (unsent ≡ []))
-    ⊎ ((how : SessionEnd) × ComesToEnd how hand rest asked unsent made counts)
+-- The run stopped in a request, or at the Bye of another end, where this call was answered Stopped.
+abbrev pub Stops : List ℕ → List ℕ → List ℕ → List ℕ → List Answer → Option ControlCall → Faults → Type 0
+Stops hand rest asked unsent made refused counts =
+    ((request : Request) × BeginsWith hand request rest × StopsIn request made refused × (unsent ≡ []))
+    ⊎ ((how : SessionEnd) × ComesToEnd how hand rest asked unsent made counts × (refused ≡ Some call.Bye))
 
 -- An end with its calls: one Bye is the last of them, and there is none where the run stopped.
-abbrev pub EndsBy : SessionEnd → List ℕ → List ℕ → List ℕ → List ℕ → List Answer → Faults → Type 0
-EndsBy end.Stopped hand rest asked unsent made counts = Stops hand rest asked unsent made counts
-EndsBy how hand rest asked unsent made counts =
+abbrev pub EndsBy : SessionEnd → List ℕ → List ℕ → List ℕ → List ℕ → List Answer → Option ControlCall → Faults → Type 0
+EndsBy end.Stopped hand rest asked unsent made refused counts = Stops hand rest asked unsent made refused counts
+EndsBy how hand rest asked unsent made refused counts =
     (calls : List Answer) × (bye : Answer) × ComesToEnd how hand rest asked unsent calls counts × (bye.call ≡ call.Bye)
     × (made ≡ calls ++ bye ∷ [])
 
 -- ---- the outcome
 
 -- An answer, whose reply was put whole; or an end, at which no reply was, but perhaps a first part of one.
-abbrev pub Outcome : Next → State → List ℕ → List ℕ → List ℕ → List ℕ → List Answer → Option (List ℕ) → Option (List ℕ) → Faults → Type 0
-Outcome next.Answered stands hand rest asked reply made put put_after counts =
+abbrev pub Outcome : Next → State → List ℕ → List ℕ → List ℕ → List ℕ → List Answer → Option ControlCall → Option (List ℕ) → Option (List ℕ) → Faults → Type 0
+Outcome next.Answered stands hand rest asked reply made refused put put_after counts =
     Answers stands hand rest reply made × Gains put put_after reply
-Outcome (next.Ended how) stands hand rest asked reply made put put_after counts =
-    (unsent : List ℕ) × (stands ≡ state.Ended how) × (reply ≡ []) × EndsBy how hand rest asked unsent made counts
+Outcome (next.Ended how) stands hand rest asked reply made refused put put_after counts =
+    (unsent : List ℕ) × (stands ≡ state.Ended how) × (reply ≡ []) × EndsBy how hand rest asked unsent made refused counts
     × GainsPart put put_after unsent
+
+-- No call was answered Stopped but where that is the end.
+abbrev pub Refuses : Next → Option ControlCall → Option ControlCall → Type 0
+Refuses (next.Ended end.Stopped) before after = ⊤
+Refuses _ before after = after ≡ before
 
 -- What an open session did: the bytes that it took, the calls that it made, and the reply that was put, each behind what
 -- was there. No byte was taken behind what it answered.
-pub record Step (what : Next) (stands : State) (asked asked_after rest rest_after replied replied_after : List ℕ) (answers answers_after : List Answer) (put put_after : Option (List ℕ)) (counts : Faults) : Type 0 where
+pub record Step (what : Next) (stands : State) (asked asked_after rest rest_after replied replied_after : List ℕ) (answers answers_after : List Answer) (refused refused_after : Option ControlCall) (put put_after : Option (List ℕ)) (counts : Faults) : Type 0 where
   pub more : List ℕ
   pub made : List Answer
   pub reply : List ℕ
   pub takes : asked_after ≡ asked ++ more
   pub calls : answers_after ≡ answers ++ made
   pub replies : replied_after ≡ replied ++ reply
-  pub outcome : Outcome what stands (rest ++ more) rest_after asked_after reply made put put_after counts
-
--- The desk tells that the run stopped where the end is Stopped, and else tells what it told before.
-abbrev pub Halts : Next → Bool → Bool → Type 0
-Halts next.Answered before after = after ≡ before
-Halts (next.Ended end.Stopped) before after = after ≡ true
-Halts (next.Ended _) before after = after ≡ before
+  pub outcome : Outcome what stands (rest ++ more) rest_after asked_after reply made refused_after put put_after counts
+  pub refuses : Refuses what refused refused_after
 
 -- Behind an answer no Settle is owed.
 abbrev pub IsReady : Next → List Answer → Type 0
@@ -140,12 +141,11 @@ pub record Breaks (asked asked_after rest replied replied_after : List ℕ) (ans
 abbrev pub ComesFrom : State → Next → Moment → Moment → Type 0
 ComesFrom state.Open what before after =
     Step what after.talk.state before.talk.asked after.talk.asked before.talk.rest after.talk.rest before.talk.replied
-    after.talk.replied before.answers after.answers before.put after.put
+    after.talk.replied before.answers after.answers before.refused after.refused before.put after.put
     (faults before.reads after.reads before.writes after.writes)
-    × Halts what before.halted after.halted
 ComesFrom (state.Leaving how) what before after =
     (came : SessionEnd) × (what ≡ next.Ended came) × (after.talk ≡ record before.talk { state = state.Ended came })
-    × Leaves how came before.answers after.answers before.halted after.halted × (after.put ≡ before.put)
+    × Leaves how came before.answers after.answers before.refused after.refused × (after.put ≡ before.put)
 ComesFrom (state.Ended how) what before after = (what ≡ next.Ended how) × (after.talk ≡ before.talk)
 ComesFrom state.Lost what before after = ⊥
 
@@ -159,10 +159,10 @@ LosesFrom state.Open before after =
     (after.talk.state ≡ state.Lost)
     × Breaks before.talk.asked after.talk.asked before.talk.rest before.talk.replied after.talk.replied before.answers
     after.answers before.put after.put (faults before.reads after.reads before.writes after.writes)
-    × (after.halted ≡ before.halted)
+    × (after.refused ≡ before.refused)
 LosesFrom (state.Leaving how) before after =
     (after.talk ≡ record before.talk { state = state.Lost }) × (after.answers ≡ before.answers)
-    × (after.halted ≡ before.halted) × (after.put ≡ before.put)
+    × (after.refused ≡ before.refused) × (after.put ≡ before.put)
 LosesFrom (state.Ended how) before after = ⊥
 LosesFrom state.Lost before after = after.talk ≡ before.talk
 

@@ -1,7 +1,8 @@
 // Makes the control calls of what was found, and the reply to it.
 ghost use Rattle.std.specs.Prelude.{◌≡◌, ◌++◌, true, Some, None, IfOk, OnErr, ◌⊎◌, []};
 ghost use Rattle.chv_defs.specs.Machine.{IsSession};
-ghost use Rattle.chv_defs.specs.Desks.{is_session_call, is_holding};
+ghost use Rattle.chv_defs.specs.declared.control.ControlCall.TheVariants.{Settle};
+ghost use Rattle.chv_defs.specs.Desks.{IsOnlyAsked, is_session_call, is_holding};
 ghost use Rattle.chv_defs.specs.SessionBytes.{Makes, Holds};
 ghost use Rattle.chv_session.specs.Response.{Serves, Responds, BreaksIn, BreaksOn, then_after, HasMadeAlso};
 
@@ -71,10 +72,10 @@ fn make<R: Copy, T: Desk<R>>(
     ensures made { IfOk result (λ answer. IfOk answer (λ last. HasMadeAlso (T.answers desk.old) (T.answers desk.new)
         (λ made. Makes call made (record { call = last.0; reply = last.1 })))) }
     ensures stopped { IfOk result (λ answer. OnErr answer (HasMadeAlso (T.answers desk.old) (T.answers desk.new)
-        (λ made. (made ≡ []) ⊎ Holds call made))) }
-    ensures goes_on { IfOk result (λ answer. IfOk answer (λ _. T.stopped desk.new ≡ T.stopped desk.old)) }
-    ensures halts { IfOk result (λ answer. OnErr answer (T.stopped desk.new ≡ true)) }
-    ensures err_goes_on { OnErr result (T.stopped desk.new ≡ T.stopped desk.old) }
+        (λ made. ((made ≡ []) × (T.refused desk.new ≡ Some call)) ⊎ (Holds call made × (T.refused desk.new ≡ Some Settle))))) }
+    ensures goes_on { IfOk result (λ answer. IfOk answer (λ _. T.refused desk.new ≡ T.refused desk.old)) }
+    ensures err_goes_on { OnErr result (T.refused desk.new ≡ T.refused desk.old) }
+    ensures asked { IsOnlyAsked T.asks desk.old desk.new }
     ensures err { OnErr result (HasMadeAlso (T.answers desk.old) (T.answers desk.new)
         (λ made. (made ≡ []) ⊎ Holds call made)) }
 {
@@ -101,9 +102,10 @@ fn serve<R: Copy, T: Desk<R>>(
     requires { IsSession (T.caller desk.old) }
     ensures caller { T.caller desk.new ≡ T.caller desk.old }
     ensures served { IfOk result (λ response. HasMadeAlso (T.answers desk.old) (T.answers desk.new)
-        (λ made. Serves request.now response.reply response.then made (T.stopped desk.old) (T.stopped desk.new))) }
+        (λ made. Serves request.now response.reply response.then made (T.refused desk.old) (T.refused desk.new))) }
     ensures err { OnErr result (HasMadeAlso (T.answers desk.old) (T.answers desk.new) (λ made. BreaksIn request.now made)) }
-    ensures err_goes_on { OnErr result (T.stopped desk.new ≡ T.stopped desk.old) }
+    ensures err_goes_on { OnErr result (T.refused desk.new ≡ T.refused desk.old) }
+    ensures asked { IsOnlyAsked T.asks desk.old desk.new }
 {
     let call = match calls_of(alloc, request)? {
         Ok(call) => call,
@@ -131,9 +133,10 @@ pub(crate) fn respond<R: Copy, T: Desk<R>>(
     requires { IsSession (T.caller desk.old) }
     ensures caller { T.caller desk.new ≡ T.caller desk.old }
     ensures responds { IfOk result (λ response. HasMadeAlso (T.answers desk.old) (T.answers desk.new)
-        (λ made. Responds found all response.reply response.then made (T.stopped desk.old) (T.stopped desk.new))) }
+        (λ made. Responds found all response.reply response.then made (T.refused desk.old) (T.refused desk.new))) }
     ensures err { OnErr result (HasMadeAlso (T.answers desk.old) (T.answers desk.new) (λ made. BreaksOn found made)) }
-    ensures err_goes_on { OnErr result (T.stopped desk.new ≡ T.stopped desk.old) }
+    ensures err_goes_on { OnErr result (T.refused desk.new ≡ T.refused desk.old) }
+    ensures asked { IsOnlyAsked T.asks desk.old desk.new }
 {
     match found {
         Found::Request(request) => serve(alloc, rt, desk, &request),

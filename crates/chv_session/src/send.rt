@@ -1,6 +1,7 @@
 // Puts a reply, and ends a session.
 ghost use Rattle.std.specs.Prelude.{◌≡◌, ◌≢◌, ◌≤◌, true, None, IfOk, OnErr};
 ghost use Rattle.chv_defs.specs.Machine.{IsSession};
+ghost use Rattle.chv_defs.specs.Desks.{IsOnlyAsked};
 ghost use Rattle.chv_defs.specs.Links.{WriteLeaves};
 ghost use Rattle.chv_session.specs.Response.{Sends, Leaves, Finishes, IsEnd};
 ghost use Rattle.chv_session.specs.Step.{said_at};
@@ -54,9 +55,10 @@ pub(crate) fn leave<R: Copy, K: Link, T: Desk<R>>(
     requires { IsSession (T.caller desk.old) }
     ensures caller { T.caller desk.new ≡ T.caller desk.old }
     ensures leaves { IfOk result (λ came. Leaves end came (T.answers desk.old) (T.answers desk.new)
-        (T.stopped desk.old) (T.stopped desk.new)) }
+        (T.refused desk.old) (T.refused desk.new)) }
     ensures err { OnErr result (T.answers desk.new ≡ T.answers desk.old) }
-    ensures err_goes_on { OnErr result (T.stopped desk.new ≡ T.stopped desk.old) }
+    ensures err_goes_on { OnErr result (T.refused desk.new ≡ T.refused desk.old) }
+    ensures asked { IsOnlyAsked T.asks desk.old desk.new }
     ensures closed { K.closed link.new ≡ true }
     ensures stays { StaysButClosed (K.left link.old) (K.left link.new) (K.gave link.old) (K.gave link.new)
         (K.written link.old) (K.written link.new) (K.most link.old) (K.most link.new) (K.read_faults link.old)
@@ -79,9 +81,10 @@ pub(crate) fn finish<R: Copy, K: Link, T: Desk<R>>(
     requires { IsSession (T.caller desk.old) }
     ensures caller { T.caller desk.new ≡ T.caller desk.old }
     ensures finishes { IfOk result (λ stands. Finishes then stands (T.answers desk.old) (T.answers desk.new)
-        (T.stopped desk.old) (T.stopped desk.new)) }
+        (T.refused desk.old) (T.refused desk.new)) }
     ensures err { OnErr result (T.answers desk.new ≡ T.answers desk.old) }
-    ensures err_goes_on { OnErr result (T.stopped desk.new ≡ T.stopped desk.old) }
+    ensures err_goes_on { OnErr result (T.refused desk.new ≡ T.refused desk.old) }
+    ensures asked { IsOnlyAsked T.asks desk.old desk.new }
     ensures err_end { OnErr result (IsEnd then) }
     ensures closes { IfOk result (λ stands. Closes (said_at stands) (K.closed link.old) (K.closed link.new)) }
     ensures stays { StaysButClosed (K.left link.old) (K.left link.new) (K.gave link.old) (K.gave link.new)

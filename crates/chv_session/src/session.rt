@@ -1,13 +1,13 @@
 // The session of one connection.
 ghost use Rattle.std.specs.Prelude.{◌≡◌, ◌≢◌, ◌≤◌, true, false, vec_len, IfOk, OnErr};
 ghost use Rattle.chv_defs.specs.Machine.{IsSession};
-ghost use Rattle.chv_defs.specs.Desks.{is_held};
+ghost use Rattle.chv_defs.specs.Desks.{IsOnlyAsked, is_held};
 ghost use Rattle.chv_defs.specs.SessionBytes.{session_limit};
 ghost use Rattle.chv_session.specs.Talk.{new_talk, end_of};
 ghost use Rattle.chv_session.specs.Taking.{TakesPieces};
 ghost use Rattle.chv_session.specs.Moment.{moment, faults};
 ghost use Rattle.chv_session.specs.Wire.{Closes, Drains, StaysButClosed};
-ghost use Rattle.chv_session.specs.Step.{Step, Halts, IsReady, Breaks, ComesTo, GetsLost, said_at, is_over};
+ghost use Rattle.chv_session.specs.Step.{Step, IsReady, Breaks, ComesTo, GetsLost, said_at, is_over};
 
 use crate::fill::fill;
 use crate::next::Next;
@@ -40,9 +40,9 @@ fn step<R: Copy, K: Link, T: Desk<R>>(
 
     // What it comes to.
     ensures step { IfOk result (λ stands. Step (said_at stands) stands asked.old.items asked.new.items parser.old parser.new
-        replied.old.items replied.new.items (T.answers desk.old) (T.answers desk.new) (K.written link.old) (K.written link.new)
+        replied.old.items replied.new.items (T.answers desk.old) (T.answers desk.new) (T.refused desk.old) (T.refused desk.new)
+        (K.written link.old) (K.written link.new)
         (faults (K.read_faults link.old) (K.read_faults link.new) (K.write_faults link.old) (K.write_faults link.new))) }
-    ensures halts { IfOk result (λ stands. Halts (said_at stands) (T.stopped desk.old) (T.stopped desk.new)) }
     ensures closes { IfOk result (λ stands. Closes (said_at stands) (K.closed link.old) (K.closed link.new)) }
     ensures drains { IfOk result (λ stands. Drains (said_at stands) (K.left link.new)) }
 
@@ -50,10 +50,11 @@ fn step<R: Copy, K: Link, T: Desk<R>>(
     ensures err { OnErr result (Breaks asked.old.items asked.new.items parser.old replied.old.items replied.new.items
         (T.answers desk.old) (T.answers desk.new) (K.written link.old) (K.written link.new)
         (faults (K.read_faults link.old) (K.read_faults link.new) (K.write_faults link.old) (K.write_faults link.new))) }
-    ensures err_goes_on { OnErr result (T.stopped desk.new ≡ T.stopped desk.old) }
+    ensures err_goes_on { OnErr result (T.refused desk.new ≡ T.refused desk.old) }
 
     // What stays.
     ensures caller { T.caller desk.new ≡ T.caller desk.old }
+    ensures asked { IsOnlyAsked T.asks desk.old desk.new }
     ensures most { K.most link.new ≡ K.most link.old }
     ensures read_later { K.read_faults link.old ≤ K.read_faults link.new }
     ensures write_later { K.write_faults link.old ≤ K.write_faults link.new }
@@ -138,9 +139,9 @@ impl Session {
 
         // What it comes to, by where it stood: its request, calls and reply, or its end.
         ensures outcome { IfOk result (λ next. ComesTo next
-            (moment self.old (T.answers desk.old) (T.stopped desk.old) (K.written link.old)
+            (moment self.old (T.answers desk.old) (T.refused desk.old) (K.written link.old)
             (K.read_faults link.old) (K.write_faults link.old))
-            (moment self.new (T.answers desk.new) (T.stopped desk.new) (K.written link.new)
+            (moment self.new (T.answers desk.new) (T.refused desk.new) (K.written link.new)
             (K.read_faults link.new) (K.write_faults link.new))) }
         ensures ready { IfOk result (λ next. IsReady next (T.answers desk.new)) }
 
@@ -150,14 +151,15 @@ impl Session {
 
         // Want of memory.
         ensures lost { OnErr result (GetsLost
-            (moment self.old (T.answers desk.old) (T.stopped desk.old) (K.written link.old)
+            (moment self.old (T.answers desk.old) (T.refused desk.old) (K.written link.old)
             (K.read_faults link.old) (K.write_faults link.old))
-            (moment self.new (T.answers desk.new) (T.stopped desk.new) (K.written link.new)
+            (moment self.new (T.answers desk.new) (T.refused desk.new) (K.written link.new)
             (K.read_faults link.new) (K.write_faults link.new))) }
 
         // What stays; all of the connection but whether it is closed, where the session is not open; and all else where it
         // is over.
         ensures caller { T.caller desk.new ≡ T.caller desk.old }
+        ensures asked { IsOnlyAsked T.asks desk.old desk.new }
         ensures most { K.most link.new ≡ K.most link.old }
         ensures read_later { K.read_faults link.old ≤ K.read_faults link.new }
         ensures write_later { K.write_faults link.old ≤ K.write_faults link.new }

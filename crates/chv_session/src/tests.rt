@@ -52,7 +52,7 @@ struct TestDesk {
     alloc: Global,
     made: Vec<Made>,
     stops_behind: usize,
-    has_stopped: bool,
+    refused: Option<ControlCall>,
     has_machine: bool,
 }
 
@@ -97,7 +97,9 @@ impl Desk<()> for TestDesk {
 
     ghost answers = { λ d. d.made.items };
 
-    ghost stopped = { λ d. d.has_stopped };
+    ghost refused = { λ d. d.refused };
+
+    ghost asks = { λ before call after. Unit {0} };
 
     fn ask(
         &mut self,
@@ -105,7 +107,7 @@ impl Desk<()> for TestDesk {
         call: &ControlCall,
     ) -> Result<Result<ControlReply, Stopped>, AllocError> {
         if self.made.len() >= self.stops_behind {
-            self.has_stopped = true;
+            self.refused = Some(copy_of(call)?);
             return Ok(Err(Stopped));
         }
         let reply = reply_to(self.alloc, self.has_machine, call);
@@ -162,7 +164,7 @@ fn play(
         alloc,
         made: Vec::new(alloc),
         stops_behind,
-        has_stopped: false,
+        refused: None,
         has_machine: false,
     };
     let mut session = Session::new(alloc)?;

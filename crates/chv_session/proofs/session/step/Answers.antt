@@ -1,6 +1,7 @@
 use Rattle.std.proofs.Common.{◌∙◌, refl, arith}
 use Rattle.chv_session.proofs.ResultLemmas.{on_err}
-use Rattle.chv_session.proofs.StepLemmas.{turn_is, step_is, halts_is, breaks_taking, breaks_making, breaks_sending, breaks_ending}
+use Rattle.chv_session.proofs.StepLemmas.{turn_is, step_is, breaks_taking, breaks_making, breaks_sending, breaks_ending}
+use Rattle.chv_session.proofs.AskedLemmas.{asked_join}
 use Rattle.chv_session.proofs.session.step.Goals as goal
 
 pub returns-in_err-found-clause-err : goal.returns-in_err-found-clause-err
@@ -32,11 +33,8 @@ returns-clause-step g c =
     c.finish.ensures.stays.put_stays (omega (arith, c.finish.ensures.stays.written_stays)) in
     step_is _ _ _ _ _ _ _ _ _ _ _ _ _ _ _ _ _ _ turn c.in_ok-stands.ensures.finishes
 
-pub returns-clause-halts : goal.returns-clause-halts
-returns-clause-halts g c =
-    let turn = turn_is _ _ _ _ _ _ _ _ _ _ _ _ _ _ _ _ _ _ _ (g.K.Source.read_faults c.finish.new.link) _ _ _
-    (g.K.Sink.write_faults c.finish.new.link) _ _ c.in_ok-found.ensures.found c.in_ok-found.ensures.cause
-    (omega (arith, c.send.ensures.leaves.later, c.finish.ensures.stays.read_stays)) c.is_empty.ensures
-    c.in_ok-response.ensures.responds c.fill.ensures.leaves.put_stays c.fill.ensures.leaves.later c.in_ok-then.ensures.sends
-    c.finish.ensures.stays.put_stays (omega (arith, c.finish.ensures.stays.written_stays)) in
-    halts_is _ _ _ _ _ _ _ _ _ _ _ _ _ _ _ _ _ _ turn c.in_ok-stands.ensures.finishes
+pub returns-in_err-stands-clause-asked : goal.returns-in_err-stands-clause-asked
+returns-in_err-stands-clause-asked g c = asked_join _ _ _ _ c.respond.ensures.asked c.finish.ensures.asked
+
+pub returns-clause-asked : goal.returns-clause-asked
+returns-clause-asked g c = asked_join _ _ _ _ c.respond.ensures.asked c.finish.ensures.asked
