@@ -32,6 +32,8 @@ mod pages;
 #[cfg(test)]
 mod scene;
 #[cfg(test)]
+mod session;
+#[cfg(test)]
 mod set;
 #[cfg(test)]
 mod store;
