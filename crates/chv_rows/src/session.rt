@@ -234,7 +234,7 @@ fn ends(rt: HostRuntime) -> Result<(), Fail> {
         assert!(rt; left.log.end == end);
         assert!(rt; left.calls == calls);
         assert!(rt; left.put.as_slice() == left.log.replied.as_slice());
-        assert!(rt; left.is_closed == turns > 1);
+        assert!(rt; left.is_closed == (turns > 1));
     }
     Ok(())
 }
