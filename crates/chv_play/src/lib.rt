@@ -9,6 +9,3 @@ mod seat;
 mod stream;
 
 pub use player::{Played, play};
-
-#[cfg(test)]
-mod tests;
