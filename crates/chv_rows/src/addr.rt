@@ -1,12 +1,11 @@
 // Places at the edges of runs, blocks and windows.
-ghost use Rattle.std.specs.Prelude.{◌≡◌, ◌+◌, ◌*◌, ◌^◌, nat_le};
-ghost use Rattle.std.specs.List.{list_all};
+ghost use Rattle.std.specs.Prelude.{◌≡◌, true, IfOk};
 ghost use Rattle.chv_defs.specs.AddressMap.{is_within_limits};
 
-use crate::AddrMap;
-use chv_defs::{
-    Checked, CpuConfig, Hotplug, MemConfig, Place, Region, Row, Text, VmConfig, ZoneConfig,
-};
+use crate::common::plain_config;
+use chv_addr::{AddrMap, checked_zones_fit};
+use chv_config::check;
+use chv_defs::{Checked, Hotplug, Place, Region, Row, Text, VmConfig, ZoneConfig};
 use std::alloc::{AllocError, Global};
 use std::test::Fail;
 
@@ -32,57 +31,36 @@ fn bar(slot: u8, offset: u32) -> Place {
     Place::Bar { slot, offset }
 }
 
-fn checked_of(alloc: Global, zones: &[Zone]) -> Result<Checked, AllocError> {
-    let mut row = Row::empty(alloc);
-    for zone in zones {
-        row.push(ZoneConfig {
-            id: Text::of(alloc, "z")?,
+fn config_of(alloc: Global, zones: &[Zone]) -> Result<VmConfig, AllocError> {
+    let mut config = plain_config(alloc);
+    config.memory.size = 0;
+    config.memory.way = Hotplug::VirtioMem;
+    for (k, zone) in zones.iter().enumerate() {
+        config.memory.zones.push(ZoneConfig {
+            id: Text::new(format!(in alloc; "z{k}")?),
             size: zone.0,
             hotplug: zone.1,
             hotplugged: 0,
         })?;
     }
-    Ok(Checked {
-        config: VmConfig {
-            cpus: CpuConfig { boot: 1, max: 1 },
-            memory: MemConfig {
-                size: 0,
-                hotplug: 0,
-                hotplugged: 0,
-                way: Hotplug::VirtioMem,
-                zones: Row::empty(alloc),
-            },
-            disks: Row::empty(alloc),
-        },
-        zones: row,
-    })
+    Ok(config)
 }
 
-fn fits(zones: &[ZoneConfig]) -> bool
-    ensures { result ≡ is_within_limits zones.now }
+fn checked_of(alloc: Global, zones: &[Zone]) -> Result<Checked, Fail>
+    ensures { IfOk result (λ checked. is_within_limits checked.zones ≡ true) }
 {
-    zones.len() <= 8 && are_small(zones)
-}
-
-fn are_small(zones: &[ZoneConfig]) -> bool
-    ensures { result ≡ list_all (λ config. nat_le (config.size + config.hotplug) (64 * 2 ^ 30)) zones.now }
-{
-    zones.iter().all(|zone| is_small(zone))
-}
-
-fn is_small(zone: &ZoneConfig) -> bool
-    ensures { result ≡ nat_le (zone.now.size + zone.now.hotplug) (64 * 2 ^ 30) }
-{
-    zone.size <= 64 * GIB && zone.hotplug <= 64 * GIB - zone.size
+    match check(alloc, &config_of(alloc, zones)?, &Row::empty(alloc))? {
+        Ok(checked) => {
+            checked_zones_fit(&checked);
+            Ok(checked)
+        }
+        Err(rule) => Err(rule.name().into()),
+    }
 }
 
 /// Whether all look-ups in the map of some zones find these places.
-fn finds(alloc: Global, zones: &[Zone], wanted: &[LookUp]) -> Result<bool, AllocError> {
-    let checked = checked_of(alloc, zones)?;
-    if !fits(checked.zones.as_slice()) {
-        return Ok(false);
-    }
-    let map = AddrMap::build(alloc, &checked)?;
+fn finds(alloc: Global, zones: &[Zone], wanted: &[LookUp]) -> Result<bool, Fail> {
+    let map = AddrMap::build(alloc, &checked_of(alloc, zones)?)?;
     Ok(
         wanted
             .iter()
@@ -227,9 +205,9 @@ fn edges_of_eight_zones(rt: HostRuntime) -> Result<(), Fail> {
 }
 
 /// The hotplug region of one of some zones.
-fn region_of(alloc: Global, zones: &[Zone], zone: u8) -> Result<Option<Region>, AllocError> {
+fn region_of(alloc: Global, zones: &[Zone], zone: u8) -> Result<Option<Region>, Fail> {
     let checked = checked_of(alloc, zones)?;
-    if !fits(checked.zones.as_slice()) || usize::from(zone) >= checked.zones.len() {
+    if usize::from(zone) >= checked.zones.len() {
         return Ok(None);
     }
     let map = AddrMap::build(alloc, &checked)?;

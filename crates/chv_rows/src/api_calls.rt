@@ -1,8 +1,6 @@
-use crate::calls_of;
-use chv_defs::{
-    Bytes, ControlCall, CpuConfig, DiskConfig, Goal, Hotplug, MemConfig, Name, Request, Row, Rule,
-    Text, VmConfig,
-};
+use crate::common::{name, plain_config, plain_disk};
+use chv_api::calls_of;
+use chv_defs::{Bytes, ControlCall, Goal, Request, Rule, Text};
 use std::alloc::{AllocError, Global};
 use std::test::Fail;
 
@@ -57,26 +55,12 @@ fn routes_without_a_body(rt: HostRuntime) -> Result<(), Fail> {
     Ok(())
 }
 
-fn default_config(alloc: Global) -> VmConfig {
-    VmConfig {
-        cpus: CpuConfig { boot: 1, max: 1 },
-        memory: MemConfig {
-            size: 536870912,
-            hotplug: 0,
-            hotplugged: 0,
-            way: Hotplug::Acpi,
-            zones: Row::empty(alloc),
-        },
-        disks: Row::empty(alloc),
-    }
-}
-
 #[test]
 fn routes_of_the_machine(rt: HostRuntime) -> Result<(), Fail> {
     let alloc = rt.alloc();
     assert!(rt;
         call(alloc, "PUT", "/api/v1/vm.create", "{}")?
-            == Ok(ControlCall::Create(default_config(alloc)))
+            == Ok(ControlCall::Create(plain_config(alloc)))
     );
     assert!(rt;
         call(
@@ -104,13 +88,7 @@ fn routes_of_the_machine(rt: HostRuntime) -> Result<(), Fail> {
 #[test]
 fn routes_of_devices(rt: HostRuntime) -> Result<(), Fail> {
     let alloc = rt.alloc();
-    let disk = DiskConfig {
-        path: Text::of(alloc, "/d")?,
-        id: None,
-        readonly: false,
-        queues: 1,
-        queue_size: 128,
-    };
+    let disk = plain_disk(alloc, "/d")?;
     assert!(rt;
         call(alloc, "PUT", "/api/v1/vm.add-disk", "{\"path\":\"/d\"}")?
             == Ok(ControlCall::AddDisk(disk))
@@ -121,10 +99,6 @@ fn routes_of_devices(rt: HostRuntime) -> Result<(), Fail> {
             == Ok(ControlCall::Remove(id))
     );
     Ok(())
-}
-
-fn name(alloc: Global, text: &str) -> Result<Name, Fail> {
-    Ok(Name::of(Text::of(alloc, text)?).ok().ok_or("no name")?)
 }
 
 #[test]

@@ -1,6 +1,6 @@
-use crate::{refusal_of, reply_of};
-use chv_defs::{ControlCall, ControlReply, CountOf, DiskConfig, DiskCount, Goal, Row, Rule, Text};
-use std::alloc::{AllocError, Global};
+use crate::common::plain_disk;
+use chv_api::{refusal_of, reply_of};
+use chv_defs::{ControlCall, ControlReply, CountOf, DiskCount, Goal, Row, Rule, Text};
 use std::test::Fail;
 
 #[test]
@@ -48,20 +48,10 @@ fn replies_without_a_value(rt: HostRuntime) -> Result<(), Fail> {
     Ok(())
 }
 
-fn disk(alloc: Global) -> Result<DiskConfig, AllocError> {
-    Ok(DiskConfig {
-        path: Text::of(alloc, "/d")?,
-        id: None,
-        readonly: false,
-        queues: 1,
-        queue_size: 128,
-    })
-}
-
 #[test]
 fn replies_to_an_added_disk(rt: HostRuntime) -> Result<(), Fail> {
     let alloc = rt.alloc();
-    let call = ControlCall::AddDisk(disk(alloc)?);
+    let call = ControlCall::AddDisk(plain_disk(alloc, "/d")?);
     let id = Text::of(alloc, "d")?;
     let booted: &[u8] =
         b"HTTP/1.1 200 OK\r\nContent-Type: application/json\r\nContent-Length: 31\r\n\r\n{\"bdf\":\"0000:00:05.0\",\"id\":\"d\"}";

@@ -3,7 +3,7 @@ ghost use Rattle.chv_defs.specs.declared.bank.BankCall.TheVariants as call;
 ghost use Rattle.chv_defs.specs.declared.bank.BankReply.TheVariants as reply;
 ghost use Rattle.std.specs.Prelude.{◌≡◌, ◌<◌, ◌≤◌, [], ◌∷◌, IfOk, length};
 
-use super::*;
+use chv_bank::Bank;
 use chv_defs::{BankCall, BankReply, BookId, Bytes, Full, Refusal, Span};
 use std::alloc::{AllocError, Global};
 use std::test::Fail;

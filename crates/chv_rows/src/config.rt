@@ -1,5 +1,6 @@
 // The rules, each just broken and just kept, and the worked configurations.
-use crate::{check, check_disk};
+use crate::common::name;
+use chv_config::{check, check_disk};
 use chv_defs::{
     Checked, CpuConfig, DiskConfig, Hotplug, MemConfig, Name, Row, Rule, Text, VmConfig, ZoneConfig,
 };
@@ -74,19 +75,16 @@ fn config_of(
 }
 
 /// Names of disks that stand by.
-fn names_of(alloc: Global, names: &[&str]) -> Result<Row<Name>, AllocError> {
+fn names_of(alloc: Global, names: &[&str]) -> Result<Row<Name>, Fail> {
     let mut row = Row::empty(alloc);
-    for name in names {
-        match Name::of(Text::of(alloc, *name)?) {
-            Ok(name) => row.push(name)?,
-            Err(_) => {}
-        }
+    for text in names {
+        row.push(name(alloc, *text)?)?;
     }
     Ok(row)
 }
 
 /// The rule by which a configuration is refused, where the disks `a`, `b` and `c` stand by.
-fn rule_of(alloc: Global, config: VmConfig) -> Result<Option<Rule>, AllocError> {
+fn rule_of(alloc: Global, config: VmConfig) -> Result<Option<Rule>, Fail> {
     let names = names_of(alloc, &["a", "b", "c"])?;
     match check(alloc, &config, &names)? {
         Ok(_) => Ok(None),
@@ -307,10 +305,7 @@ fn many_devices(rt: HostRuntime) -> Result<(), Fail> {
             config
                 .disks
                 .push(disk_of(alloc, &(path.as_str(), None, 1, 128))?)?;
-            match Name::of(Text::new(format!(in alloc; "d{k}")?)) {
-                Ok(name) => names.push(name)?,
-                Err(_) => {}
-            }
+            names.push(name(alloc, format!(in alloc; "d{k}")?.as_str())?)?;
         }
         match check(alloc, &config, &names)? {
             Ok(checked) => {

@@ -3,10 +3,10 @@ ghost use Rattle.std.specs.Prelude.{◌≡◌, true};
 ghost use Rattle.chv_defs.specs.Machine.{IsSession};
 ghost use Rattle.chv_defs.specs.Desks.{is_session_call};
 
-use super::*;
+use crate::common::{name, plain_config, plain_disk};
+use chv_control::{Control, Inner, Start, refusals_change_nothing};
 use chv_defs::{
-    BookId, ControlCall, ControlReply, CpuConfig, DiskConfig, Full, Goal, Hotplug, Info, MemConfig,
-    Name, Row, Rule, Text, VmConfig,
+    BookId, ControlCall, ControlReply, CpuConfig, Full, Goal, Info, Name, Row, Rule, VmConfig,
 };
 use chv_store::{AnyDisk, MemDisk};
 use std::alloc::{AllocError, Global};
@@ -14,37 +14,19 @@ use std::test::Fail;
 
 // A configuration with the disk of `/opt/clh/images/focal.raw`.
 fn config(alloc: Global) -> Result<VmConfig, AllocError> {
-    let mut disks = Row::empty(alloc);
-    disks.push(DiskConfig {
-        path: Text::of(alloc, "/opt/clh/images/focal.raw")?,
-        id: None,
-        readonly: false,
-        queues: 1,
-        queue_size: 128,
-    })?;
-    Ok(VmConfig {
-        cpus: CpuConfig { boot: 4, max: 4 },
-        memory: MemConfig {
-            size: 536870912,
-            hotplug: 0,
-            hotplugged: 0,
-            way: Hotplug::Acpi,
-            zones: Row::empty(alloc),
-        },
-        disks,
-    })
+    let mut config = plain_config(alloc);
+    config.cpus = CpuConfig { boot: 4, max: 4 };
+    config
+        .disks
+        .push(plain_disk(alloc, "/opt/clh/images/focal.raw")?)?;
+    Ok(config)
 }
 
 // The disk `focal.raw`.
 fn disks(alloc: Global) -> Result<Vec<(Name, AnyDisk<MemDisk>)>, Fail> {
-    let Ok(name) = Name::of(Text::of(alloc, "focal.raw")?) else {
-        return Err(Fail::from("no name"));
-    };
+    let disk = MemDisk::new(alloc, 8, Row::empty(alloc))?;
     let mut disks = Vec::new(alloc);
-    disks.push((
-        name,
-        AnyDisk::Given(MemDisk::new(alloc, 8, Row::empty(alloc))?),
-    ))?;
+    disks.push((name(alloc, "focal.raw")?, AnyDisk::Given(disk)))?;
     Ok(disks)
 }
 

@@ -3,10 +3,10 @@ ghost use Rattle.std.specs.Prelude.{◌≡◌, true, IfOk};
 ghost use Rattle.chv_defs.specs.Machine.{IsWellFormed, empty_machine};
 ghost use Rattle.chv_defs.specs.Desks.{is_session_call};
 
-use super::*;
+use crate::common::{name, plain_config, plain_disk};
+use chv_ctl_api::{answers_fit, api_step, refused_calls_change_nothing, states_stay_well_formed};
 use chv_defs::{
-    ControlCall, ControlReply, CpuConfig, DiskConfig, Goal, Hotplug, Life, Machine, MemConfig,
-    Name, OnShelf, Row, Rule, Text, VmConfig,
+    ControlCall, ControlReply, Goal, Hotplug, Life, Machine, OnShelf, Row, Rule, Text, VmConfig,
 };
 use std::alloc::{AllocError, Global};
 use std::test::Fail;
@@ -22,11 +22,11 @@ fn empty(alloc: Global) -> Machine
     }
 }
 
-fn on_shelf(alloc: Global, name: &str) -> Result<OnShelf, Fail> {
-    match Name::of(Text::of(alloc, name)?) {
-        Ok(name) => Ok(OnShelf { name, sectors: 8 }),
-        Err(_) => Err(Fail::from("no name")),
-    }
+fn on_shelf(alloc: Global, text: &str) -> Result<OnShelf, Fail> {
+    Ok(OnShelf {
+        name: name(alloc, text)?,
+        sectors: 8,
+    })
 }
 
 // The disks `a` and `b`.
@@ -37,31 +37,13 @@ fn shelf(alloc: Global) -> Result<Row<OnShelf>, Fail> {
     Ok(shelf)
 }
 
-fn disk(alloc: Global, path: &str) -> Result<DiskConfig, AllocError> {
-    Ok(DiskConfig {
-        path: Text::of(alloc, path)?,
-        id: None,
-        readonly: false,
-        queues: 1,
-        queue_size: 128,
-    })
-}
-
 // One zone of 512 MiB that grows by 512 MiB, and the disk `a`.
 fn config(alloc: Global) -> Result<VmConfig, AllocError> {
-    let mut disks = Row::empty(alloc);
-    disks.push(disk(alloc, "/images/a")?)?;
-    Ok(VmConfig {
-        cpus: CpuConfig { boot: 1, max: 1 },
-        memory: MemConfig {
-            size: 536870912,
-            hotplug: 536870912,
-            hotplugged: 0,
-            way: Hotplug::VirtioMem,
-            zones: Row::empty(alloc),
-        },
-        disks,
-    })
+    let mut config = plain_config(alloc);
+    config.memory.hotplug = 536_870_912;
+    config.memory.way = Hotplug::VirtioMem;
+    config.disks.push(plain_disk(alloc, "/images/a")?)?;
+    Ok(config)
 }
 
 // Makes a call; whether it was answered so.
@@ -167,7 +149,7 @@ fn disks_are_added_and_removed(rt: HostRuntime) -> Result<(), Fail> {
     let alloc = rt.alloc();
     let shelf = shelf(alloc)?;
     let mut machine = created(alloc, &shelf)?;
-    let add = ControlCall::AddDisk(disk(alloc, "/images/b")?);
+    let add = ControlCall::AddDisk(plain_disk(alloc, "/images/b")?);
     assert!(rt; answers(alloc, &mut machine, &shelf, add, ControlReply::Done)?);
     assert!(rt; ids(alloc, &machine)?.as_str() == " _disk0 _disk1");
     let remove = ControlCall::Remove(Text::of(alloc, "_disk0")?);
@@ -182,7 +164,7 @@ fn crowded(alloc: Global) -> Result<(VmConfig, Row<OnShelf>), Fail> {
     let mut shelf = shelf(alloc)?;
     for k in 0..30 {
         let name = format!(in alloc; "d{k}")?;
-        disks.push(disk(alloc, name.as_str())?)?;
+        disks.push(plain_disk(alloc, name.as_str())?)?;
         shelf.push(on_shelf(alloc, name.as_str())?)?;
     }
     let mut config = config(alloc)?;
@@ -197,7 +179,7 @@ fn all_slots_are_used(rt: HostRuntime) -> Result<(), Fail> {
     let mut machine = empty(alloc);
     let create = ControlCall::Create(config);
     assert!(rt; answers(alloc, &mut machine, &shelf, create, ControlReply::Done)?);
-    let add = ControlCall::AddDisk(disk(alloc, "a")?);
+    let add = ControlCall::AddDisk(plain_disk(alloc, "a")?);
     assert!(rt; answers(alloc, &mut machine, &shelf, add, ruled(Rule::SlotsFull))?);
     Ok(())
 }

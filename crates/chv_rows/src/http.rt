@@ -1,6 +1,7 @@
 ghost use Rattle.std.specs.Prelude.{◌<◌};
 
-use super::*;
+use chv_defs::{Rule, Text, Took};
+use chv_http::{Parser, reply_bytes};
 use std::alloc::{AllocError, Global};
 use std::test::Fail;
 
@@ -228,7 +229,7 @@ fn refused_for_good(rt: HostRuntime) -> Result<(), Fail> {
     let mut parser = Parser::new(rt.alloc())?;
     parser.feed(b"PUT /a HTTP/1.1\r\nContent-Length: 1x\r\n\r\n")?;
     for _ in 0..3 {
-        assert!(rt; parser.take()? == Took::Bad(chv_defs::Rule::BadLength));
+        assert!(rt; parser.take()? == Took::Bad(Rule::BadLength));
         parser.feed(b"GET /b HTTP/1.1\r\n\r\n")?;
     }
     Ok(())
@@ -236,7 +237,7 @@ fn refused_for_good(rt: HostRuntime) -> Result<(), Fail> {
 
 #[test]
 fn replies(rt: HostRuntime) -> Result<(), Fail> {
-    let body = chv_defs::Text::of(rt.alloc(), "{\"rule\":\"NotCreated\"}")?;
+    let body = Text::of(rt.alloc(), "{\"rule\":\"NotCreated\"}")?;
     let refused =
         b"HTTP/1.1 404 Not Found\r\nContent-Type: application/json\r\nContent-Length: 21\r\n\r\n{\"rule\":\"NotCreated\"}";
     let reply = reply_bytes(rt.alloc(), 404, Some(&body), false)?;

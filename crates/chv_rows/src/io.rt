@@ -1,5 +1,9 @@
-use super::*;
+use crate::common::numbers;
 use chv_defs::{Bytes, Row};
+use chv_io::{
+    Failed, Link, Listener, MemLink, MemListener, MemSink, MemSource, Sink, Source, StdSink,
+    StdSource, read_from, write_to,
+};
 use std::alloc::{AllocError, Global};
 use std::io::{Error, ErrorKind, Read, Write};
 use std::process::Abort;
@@ -98,7 +102,7 @@ impl Write for Narrow {
 #[test]
 fn source_in_memory(rt: HostRuntime) -> Result<(), Fail> {
     let alloc = rt.alloc();
-    let fail = Row::new([2, 3].to_vec(alloc)?);
+    let fail = numbers(alloc, &[2, 3])?;
     let mut source = MemSource::new(Bytes::of(alloc, b"hello")?, fail);
     let first = gives(&rt, alloc, &mut source, b"hel", false)?;
     let second = gives(&rt, alloc, &mut source, b"", false)?;
@@ -114,7 +118,7 @@ fn sink_in_memory(rt: HostRuntime) -> Result<(), Fail> {
     let mut sink = MemSink::new(alloc, 5, Row::empty(alloc))?;
     assert!(rt; fill(&mut sink) == ([true, false, true], 1));
     assert!(rt; sink.written() == b"abg".as_slice());
-    let mut sink = MemSink::new(alloc, 100, Row::new([3].to_vec(alloc)?))?;
+    let mut sink = MemSink::new(alloc, 100, numbers(alloc, &[3])?)?;
     assert!(rt; fill(&mut sink) == ([true, true, false], 1));
     assert!(rt; sink.written() == b"abcdef".as_slice());
     Ok(())
@@ -123,7 +127,7 @@ fn sink_in_memory(rt: HostRuntime) -> Result<(), Fail> {
 #[test]
 fn link_in_memory(rt: HostRuntime) -> Result<(), Fail> {
     let alloc = rt.alloc();
-    let fail = Row::new([2].to_vec(alloc)?);
+    let fail = numbers(alloc, &[2])?;
     let mut link = MemLink::new(alloc, Bytes::of(alloc, b"hello")?, 2, 3, fail)?;
     let mut buf = [0; 4];
     assert!(rt; read_from(&mut link, &mut buf) == Ok(2));
@@ -143,9 +147,9 @@ fn listener_in_memory(rt: HostRuntime) -> Result<(), Fail> {
     let alloc = rt.alloc();
     // The second asks where no connection is left.
     assert!(rt; serve(alloc, Row::empty(alloc))? == ([true, true, false], 1));
-    assert!(rt; serve(alloc, Row::new([1].to_vec(alloc)?))? == ([false, false, false], 1));
+    assert!(rt; serve(alloc, numbers(alloc, &[1])?)? == ([false, false, false], 1));
     // A listed call leaves the connection for the next.
-    assert!(rt; serve(alloc, Row::new([2].to_vec(alloc)?))? == ([true, false, true], 1));
+    assert!(rt; serve(alloc, numbers(alloc, &[2])?)? == ([true, false, true], 1));
     Ok(())
 }
 

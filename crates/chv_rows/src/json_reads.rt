@@ -1,5 +1,5 @@
-use crate::{config_of, config_text, disk_of, resize_of, text_of, zone_of};
 use chv_defs::{DiskConfig, Hotplug, Rule, Text, VmConfig};
+use chv_json::{config_of, config_text, disk_of, resize_of, text_of, zone_of};
 use std::alloc::{AllocError, Global};
 use std::test::Fail;
 

@@ -1,37 +1,16 @@
-use crate::{config_text, counters_text, device_text, disk_text, info_text};
+use crate::common::{plain_config, plain_disk};
 use chv_defs::{
-    CountOf, CpuConfig, DeviceInfo, DiskConfig, DiskCount, Hotplug, Info, MemConfig, Row,
-    ShownState, Text, VmConfig, ZoneConfig, ZoneInfo,
+    CountOf, CpuConfig, DeviceInfo, DiskConfig, DiskCount, Hotplug, Info, Row, ShownState, Text,
+    VmConfig, ZoneConfig, ZoneInfo,
 };
+use chv_json::{config_text, counters_text, device_text, disk_text, info_text};
 use std::alloc::{AllocError, Global};
 use std::test::Fail;
 
-// The configuration of an empty body, but for its vCPUs and disks.
-fn plain(alloc: Global, vcpus: u64, disks: Row<DiskConfig>) -> VmConfig {
-    VmConfig {
-        cpus: CpuConfig {
-            boot: vcpus,
-            max: vcpus,
-        },
-        memory: MemConfig {
-            size: 536870912,
-            hotplug: 0,
-            hotplugged: 0,
-            way: Hotplug::Acpi,
-            zones: Row::empty(alloc),
-        },
-        disks,
-    }
-}
-
 fn focal(alloc: Global, id: Option<Text>) -> Result<DiskConfig, AllocError> {
-    Ok(DiskConfig {
-        path: Text::of(alloc, "/opt/clh/images/focal.raw")?,
-        id,
-        readonly: false,
-        queues: 1,
-        queue_size: 128,
-    })
+    let mut disk = plain_disk(alloc, "/opt/clh/images/focal.raw")?;
+    disk.id = id;
+    Ok(disk)
 }
 
 // What is shown of a machine that was created.
@@ -55,12 +34,12 @@ fn created(alloc: Global, config: VmConfig) -> Result<Info, AllocError> {
 #[test]
 fn writes_configurations(rt: HostRuntime) -> Result<(), Fail> {
     let alloc = rt.alloc();
-    let text = config_text(alloc, &plain(alloc, 1, Row::empty(alloc)))?;
+    let text = config_text(alloc, &plain_config(alloc))?;
     assert!(rt;
         text.as_str()
             == "{\"cpus\":{\"boot_vcpus\":1,\"max_vcpus\":1},\"disks\":[],\"memory\":{\"hotplug_method\":\"Acpi\",\"hotplug_size\":0,\"hotplugged_size\":0,\"size\":536870912,\"zones\":[]}}"
     );
-    let mut config = plain(alloc, 1, Row::empty(alloc));
+    let mut config = plain_config(alloc);
     config.memory.way = Hotplug::VirtioMem;
     config.memory.zones.push(ZoneConfig {
         id: Text::of(alloc, "a\"b")?,
@@ -84,11 +63,14 @@ fn writes_configurations(rt: HostRuntime) -> Result<(), Fail> {
 #[test]
 fn shows_machines(rt: HostRuntime) -> Result<(), Fail> {
     let alloc = rt.alloc();
-    let text = info_text(alloc, &created(alloc, plain(alloc, 1, Row::empty(alloc)))?)?;
+    let text = info_text(alloc, &created(alloc, plain_config(alloc))?)?;
     assert!(rt; text.as_str().len() == 294);
-    let mut disks = Row::empty(alloc);
-    disks.push(focal(alloc, Some(Text::of(alloc, "_disk0")?))?)?;
-    let text = info_text(alloc, &created(alloc, plain(alloc, 4, disks))?)?;
+    let mut config = plain_config(alloc);
+    config.cpus = CpuConfig { boot: 4, max: 4 };
+    config
+        .disks
+        .push(focal(alloc, Some(Text::of(alloc, "_disk0")?))?)?;
+    let text = info_text(alloc, &created(alloc, config)?)?;
     assert!(rt;
         text.as_str()
             == "{\"config\":{\"cpus\":{\"boot_vcpus\":4,\"max_vcpus\":4},\"disks\":[{\"id\":\"_disk0\",\"num_queues\":1,\"path\":\"/opt/clh/images/focal.raw\",\"queue_size\":128,\"readonly\":false}],\"memory\":{\"hotplug_method\":\"Acpi\",\"hotplug_size\":0,\"hotplugged_size\":0,\"size\":536870912,\"zones\":[]}},\"devices\":[],\"memory_actual_size\":536870912,\"state\":\"Created\",\"vcpus\":[],\"zones\":[{\"id\":\"mem0\",\"plugged_size\":0,\"requested_size\":0}]}"

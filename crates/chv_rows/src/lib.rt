@@ -10,6 +10,8 @@ mod api_replies;
 #[cfg(test)]
 mod bank;
 #[cfg(test)]
+mod common;
+#[cfg(test)]
 mod config;
 #[cfg(test)]
 mod control;
@@ -29,6 +31,8 @@ mod num;
 mod pages;
 #[cfg(test)]
 mod scene;
+#[cfg(test)]
+mod session;
 #[cfg(test)]
 mod set;
 #[cfg(test)]

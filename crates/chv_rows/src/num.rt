@@ -1,4 +1,4 @@
-use crate::{bytes_of_hex, get_le, hex_of, put_le, read_dec, read_hex};
+use chv_num::{bytes_of_hex, get_le, hex_of, put_le, read_dec, read_hex};
 use std::test::Fail;
 
 #[test]

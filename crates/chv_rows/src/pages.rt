@@ -1,6 +1,6 @@
 // Reads and writes across the edges of pages, and pages that are filled, cleared and listed.
-use crate::Pages;
 use chv_defs::{Bytes, PageAt};
+use chv_pages::Pages;
 use std::alloc::{AllocError, Global};
 use std::test::Fail;
 

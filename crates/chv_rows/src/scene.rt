@@ -1,5 +1,5 @@
-use crate::{SceneFault, read};
 use chv_defs::{Asked, Bytes, Reason, Row, Scene, Text};
+use chv_scene::{SceneFault, read};
 use std::alloc::{AllocError, Global};
 use std::test::Fail;
 

@@ -1,6 +1,6 @@
 // One small set of each kind. The contracts say the rest.
-use crate::BlockSet;
 use chv_defs::Span;
+use chv_set::BlockSet;
 use std::alloc::{AllocError, Global};
 use std::test::Fail;
 

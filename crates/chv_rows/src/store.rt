@@ -1,7 +1,7 @@
-use super::*;
-use chv_defs::Row;
+use crate::common::numbers;
 use chv_io::{Disk, Failed};
-use std::alloc::Global;
+use chv_store::{AnyDisk, MemDisk};
+use std::alloc::{AllocError, Global};
 use std::test::Fail;
 
 /// A sector of one byte's copies.
@@ -20,8 +20,9 @@ fn write_and_read<D: Disk>(disk: &mut D) -> ([bool; 3], u8, u8) {
     ([wrote, read, read_next], here[511], next[511])
 }
 
-fn blank(alloc: Global, fail: &[u64]) -> Result<MemDisk, Fail> {
-    Ok(MemDisk::new(alloc, 3, Row::new(fail.to_vec(alloc)?))?)
+/// A disk of zeros, whose calls of these numbers fail.
+fn blank(alloc: Global, fail: &[u64]) -> Result<MemDisk, AllocError> {
+    MemDisk::new(alloc, 3, numbers(alloc, fail)?)
 }
 
 #[test]

@@ -1,8 +1,9 @@
 // The worked scenarios, and each fault of the outside.
-use super::*;
-use chv_defs::{Bytes, Name, Row, Text};
+use crate::common::{name, numbers};
+use chv_defs::{Bytes, Name, Row};
 use chv_io::{MemSink, MemSource};
 use chv_store::MemDisk;
+use chv_top::{Status, play_program, run_program};
 use std::alloc::{AllocError, Global};
 use std::test::Fail;
 
@@ -37,15 +38,6 @@ const MISTAKES: &str =
 const MISTAKES_TRACE: &str =
     "trace 1\nscene 0\ncontrol 5\n2 ping -> done\n2 bye -> done\n1 create {\"cpus\":{\"boot_vcpus\":1,\"max_vcpus\":1},\"disks\":[],\"memory\":{\"hotplug_method\":\"Acpi\",\"hotplug_size\":0,\"hotplugged_size\":0,\"size\":536870912,\"zones\":[]}} -> done\n1 begin pause -> rule NotRunning\n1 bye -> done\nsession 1 ended\nask 505554202f6170692f76312f766d2e63726561746520485454502f312e310d0a486f73743a206c6f63616c686f73740d0a436f6e74656e742d4c656e6774683a2031300d0a0d0a7b2263707573223a377d474554202f6170692f76312f766d2e6e6f7468696e6720485454502f312e310d0a486f73743a206c6f63616c686f73740d0a0d0a505554202f6170692f76312f766d2e63726561746520485454502f312e310d0a486f73743a206c6f63616c686f73740d0a436f6e74656e742d4c656e6774683a20320d0a0d0a7b7d505554202f6170692f76312f766d2e706175736520485454502f312e310d0a486f73743a206c6f63616c686f73740d0a436f6e74656e742d4c656e6774683a20300d0a0d0a\nreply 485454502f312e31203430302042616420526571756573740d0a436f6e74656e742d547970653a206170706c69636174696f6e2f6a736f6e0d0a436f6e74656e742d4c656e6774683a2032300d0a0d0a7b2272756c65223a224e6f744f626a656374227d485454502f312e3120343034204e6f7420466f756e640d0a436f6e74656e742d547970653a206170706c69636174696f6e2f6a736f6e0d0a436f6e74656e742d4c656e6774683a2031380d0a0d0a7b2272756c65223a224e6f526f757465227d485454502f312e3120323034204e6f20436f6e74656e740d0a0d0a485454502f312e312035303020496e7465726e616c20536572766572204572726f720d0a436f6e74656e742d547970653a206170706c69636174696f6e2f6a736f6e0d0a436f6e74656e742d4c656e6774683a2032310d0a0d0a7b2272756c65223a224e6f7452756e6e696e67227d\nsession 2 ended\nask 474554202f6170692f76312f766d6d2e70696e6720485454502f312e310d0a486f73743a206c6f63616c686f73740d0a0d0a\nreply 485454502f312e3120323030204f4b0d0a436f6e74656e742d547970653a206170706c69636174696f6e2f6a736f6e0d0a436f6e74656e742d4c656e6774683a2031390d0a0d0a7b2276657273696f6e223a226368762031227d\nend\n";
 
-// Which call fails: the one of this number, or none where it is 0.
-fn calls(alloc: Global, number: u64) -> Result<Row<u64>, AllocError> {
-    let mut row = Row::empty(alloc);
-    if number > 0 {
-        row.push(number)?;
-    }
-    Ok(row)
-}
-
 // These words, separated by spaces.
 fn words_of(alloc: Global, text: &str) -> Result<Vec<String>, AllocError> {
     let mut words = Vec::new(alloc);
@@ -56,16 +48,15 @@ fn words_of(alloc: Global, text: &str) -> Result<Vec<String>, AllocError> {
 }
 
 // A disk of this name.
-fn disks_of(alloc: Global, name: &str) -> Result<Vec<(Name, MemDisk)>, Fail> {
+fn disks_of(alloc: Global, text: &str) -> Result<Vec<(Name, MemDisk)>, Fail> {
+    let disk = MemDisk::new(alloc, 64, Row::empty(alloc))?;
     let mut disks = Vec::new(alloc);
-    match Name::of(Text::of(alloc, name)?) {
-        Ok(name) => disks.push((name, MemDisk::new(alloc, 64, calls(alloc, 0)?)?))?,
-        Err(_) => return Err(Fail::from("no name")),
-    }
+    disks.push((name(alloc, text)?, disk))?;
     Ok(disks)
 }
 
-// The status of a run of these words, and what it wrote, where the disk `focal.raw` stands by.
+// The status of a run of these words, and what it wrote, where the disk `focal.raw` stands by. The read and the write of
+// these numbers fail; 0 is none.
 fn run(
     alloc: Global,
     words: &str,
@@ -74,8 +65,8 @@ fn run(
     write: u64,
 ) -> Result<(Status, Vec<u8>), Fail> {
     let words = words_of(alloc, words)?;
-    let mut input = MemSource::new(Bytes::of(alloc, text.as_bytes())?, calls(alloc, read)?);
-    let mut out = MemSink::new(alloc, 100_000, calls(alloc, write)?)?;
+    let mut input = MemSource::new(Bytes::of(alloc, text.as_bytes())?, numbers(alloc, &[read])?);
+    let mut out = MemSink::new(alloc, 100_000, numbers(alloc, &[write])?)?;
     let disks = disks_of(alloc, "focal.raw")?;
     let ended = run_program(alloc, words.as_slice(), &mut input, &mut out, disks);
     Ok((ended.status, Vec::from_slice(alloc, out.written())?))
@@ -148,8 +139,8 @@ fn what_is_not_played(rt: HostRuntime) -> Result<(), Fail> {
 fn an_input_that_is_too_long(rt: HostRuntime) -> Result<(), Fail> {
     let alloc = rt.alloc();
     let text = vec![in alloc; b'a'; 16_777_217]?;
-    let mut input = MemSource::new(Bytes::new(text), calls(alloc, 0)?);
-    let mut out = MemSink::new(alloc, 100, calls(alloc, 0)?)?;
+    let mut input = MemSource::new(Bytes::new(text), Row::empty(alloc));
+    let mut out = MemSink::new(alloc, 100, Row::empty(alloc))?;
     let ended = play_program(alloc, &mut input, &mut out, disks_of(alloc, "root")?);
     assert!(rt; ended.status.code() == 9);
     assert!(rt; out.written() == "chv: too long\n".as_bytes());

@@ -1,43 +1,36 @@
 // Texts worked out from their format by hand, and outputs that fail.
-ghost use Rattle.std.specs.Prelude.{◌≡◌, [], IfOk};
-
-use super::*;
-use crate::calls::call_text;
-use crate::replies::reply_text;
+use crate::common::{name, numbers};
 use chv_defs::{
     BookId, BusyAt, Bytes, ContextNote, ControlCall, ControlEntry, ControlReply, CpuNote,
-    DiskCount, HandNote, MemAnswer, MemRequest, Name, QueueFault, QueueNote, RegAccess, Role, Row,
-    Rule, SessionEnd, SessionLog, SessionTrace, SliceEnd, Text, Trace,
+    DiskCount, HandNote, MemAnswer, MemRequest, QueueFault, QueueNote, RegAccess, Role, Row, Rule,
+    SessionEnd, SessionLog, SessionTrace, SliceEnd, Text, Trace,
 };
 use chv_io::MemSink;
+use chv_trace::{PrintError, print};
 use std::alloc::{AllocError, Global};
 use std::test::Fail;
 
 const PING: &str =
     "trace 1\nscene 0\ncontrol 2\n1 ping -> done\n1 bye -> done\nsession 1 ended\nask 474a\nreply -\nend\n";
 
-// A session that makes a ping, and took these bytes.
-fn ping(alloc: Global, asked: &[u8]) -> Result<Trace, AllocError>
-    ensures disks { IfOk result (λ trace. trace.disks ≡ []) }
-    ensures vcpus { IfOk result (λ trace. trace.vcpus ≡ []) }
-    ensures banks { IfOk result (λ trace. trace.banks ≡ []) }
-{
-    let control = Row::new(entries(alloc)?);
-    let sessions = Row::new(sessions(alloc, asked)?);
-    Ok(Trace {
+// What an output has of a trace of these entries and sessions, and how printing ended. The call of this number fails; 0 is
+// none.
+fn printed(
+    alloc: Global,
+    control: Row<ControlEntry>,
+    sessions: Row<SessionTrace>,
+    failing: u64,
+) -> Result<(Vec<u8>, Result<(), PrintError>), AllocError> {
+    let trace = Trace {
         disks: Row::empty(alloc),
         vcpus: Row::empty(alloc),
         control,
         banks: Row::empty(alloc),
         sessions,
-    })
-}
-
-fn entries(alloc: Global) -> Result<Vec<ControlEntry>, AllocError> {
-    let mut entries = Vec::new(alloc);
-    entries.push(entry(ControlCall::Ping))?;
-    entries.push(entry(ControlCall::Bye))?;
-    Ok(entries)
+    };
+    let mut out = MemSink::new(alloc, 200_000, numbers(alloc, &[failing])?)?;
+    let ended = print(alloc, &trace, &mut out);
+    Ok((Vec::from_slice(alloc, out.written())?, ended))
 }
 
 fn entry(call: ControlCall) -> ControlEntry {
@@ -48,32 +41,28 @@ fn entry(call: ControlCall) -> ControlEntry {
     }
 }
 
-fn sessions(alloc: Global, asked: &[u8]) -> Result<Vec<SessionTrace>, AllocError> {
+// A session that makes a ping, and took these bytes.
+fn ping(
+    alloc: Global,
+    asked: &[u8],
+    failing: u64,
+) -> Result<(Vec<u8>, Result<(), PrintError>), AllocError> {
+    let mut control = Row::empty(alloc);
+    control.push(entry(ControlCall::Ping))?;
+    control.push(entry(ControlCall::Bye))?;
     let log = SessionLog {
         asked: Bytes::of(alloc, asked)?,
         replied: Bytes::new(Vec::new(alloc)),
         end: SessionEnd::Ended,
     };
-    let mut sessions = Vec::new(alloc);
+    let mut sessions = Row::empty(alloc);
     sessions.push(SessionTrace { session: 1, log })?;
-    Ok(sessions)
-}
-
-// What an output has of the trace of a ping, and how printing ended. The call of this number fails; 0 is none.
-fn printed(
-    alloc: Global,
-    asked: &[u8],
-    failing: u64,
-) -> Result<(Vec<u8>, Result<(), PrintError>), AllocError> {
-    let trace = ping(alloc, asked)?;
-    let mut out = MemSink::new(alloc, 200_000, Row::new([failing].to_vec(alloc)?))?;
-    let ended = print(alloc, &trace, &mut out);
-    Ok((Vec::from_slice(alloc, out.written())?, ended))
+    printed(alloc, control, sessions, failing)
 }
 
 #[test]
 fn a_ping_is_printed(rt: HostRuntime) -> Result<(), Fail> {
-    let (written, ended) = printed(rt.alloc(), b"GJ", 0)?;
+    let (written, ended) = ping(rt.alloc(), b"GJ", 0)?;
     assert!(rt; ended == Ok(()));
     assert!(rt; written.as_slice() == PING.as_bytes());
     Ok(())
@@ -82,26 +71,45 @@ fn a_ping_is_printed(rt: HostRuntime) -> Result<(), Fail> {
 #[test]
 fn an_output_that_fails_has_a_first_part(rt: HostRuntime) -> Result<(), Fail> {
     let alloc = rt.alloc();
-    let (written, ended) = printed(alloc, b"GJ", 1)?;
+    let (written, ended) = ping(alloc, b"GJ", 1)?;
     assert!(rt; ended == Err(PrintError::Failed));
     assert!(rt; written.is_empty());
     // 75 bytes stand before the pairs, so that the first piece has 32,731 of these.
     let asked = [71; 40_000];
-    let (written, ended) = printed(alloc, &asked, 2)?;
+    let (written, ended) = ping(alloc, &asked, 2)?;
     assert!(rt; ended == Err(PrintError::Failed));
     assert!(rt; written.len() == 65_537);
-    let (written, ended) = printed(alloc, &asked, 3)?;
+    let (written, ended) = ping(alloc, &asked, 3)?;
     assert!(rt; ended == Ok(()));
     assert!(rt; written.len() == 80_088);
     Ok(())
 }
 
+// Whether the trace of one entry has this call and this reply in its line.
+fn is_line(
+    alloc: Global,
+    entry: ControlEntry,
+    call: &str,
+    reply: &str,
+) -> Result<bool, AllocError> {
+    let mut control = Row::empty(alloc);
+    control.push(entry)?;
+    let (written, ended) = printed(alloc, control, Row::empty(alloc), 0)?;
+    let expected = format!(in alloc; "trace 1\nscene 0\ncontrol 1\n1 {call} -> {reply}\nend\n")?;
+    Ok(ended.is_ok() && written.as_slice() == expected.as_bytes())
+}
+
 fn is_call(alloc: Global, call: ControlCall, line: &str) -> Result<bool, AllocError> {
-    Ok(call_text(alloc, &call)?.as_str() == line)
+    is_line(alloc, entry(call), line, "done")
 }
 
 fn is_reply(alloc: Global, reply: ControlReply, line: &str) -> Result<bool, AllocError> {
-    Ok(reply_text(alloc, &reply)?.as_str() == line)
+    let entry = ControlEntry {
+        caller: 1,
+        call: ControlCall::Ping,
+        reply,
+    };
+    is_line(alloc, entry, "ping", line)
 }
 
 fn handed(alloc: Global, end: SliceEnd, order: &[BookId]) -> Result<ControlCall, AllocError> {
@@ -128,27 +136,22 @@ fn handed(alloc: Global, end: SliceEnd, order: &[BookId]) -> Result<ControlCall,
 fn calls_have_their_lines(rt: HostRuntime) -> Result<(), Fail> {
     let alloc = rt.alloc();
     let zone = Text::of(alloc, "a\"b")?;
-    let name = Name::of(Text::of(alloc, "s.1")?).ok().ok_or("no name")?;
     let resize = ControlCall::Resize {
         vcpus: None,
         ram: Some(1_048_576),
     };
-    assert!(rt; is_call(alloc, resize, "resize - 1048576")?);
-    assert!(rt;
-        is_call(
-            alloc,
+    let cases = [
+        (resize, "resize - 1048576"),
+        (
             ControlCall::ResizeZone { zone, ram: 0 },
-            "zone \"a\\\"b\" 0"
-        )?
-    );
-    assert!(rt;
-        is_call(
-            alloc,
-            ControlCall::Remove(Text::of(alloc, "d0")?),
-            "remove \"d0\""
-        )?
-    );
-    assert!(rt; is_call(alloc, ControlCall::Snapshot(name), "snapshot s.1")?);
+            "zone \"a\\\"b\" 0",
+        ),
+        (ControlCall::Remove(Text::of(alloc, "d0")?), "remove \"d0\""),
+        (ControlCall::Snapshot(name(alloc, "s.1")?), "snapshot s.1"),
+    ];
+    for (call, line) in cases {
+        assert!(rt; is_call(alloc, call, line)?, "{line}");
+    }
     Ok(())
 }
 

@@ -13,6 +13,3 @@ pub use laws::{answers_without_bye, puts_its_replies, steps_make_a_session};
 pub use next::Next;
 pub use session::Session;
 pub use state::State;
-
-#[cfg(test)]
-mod tests;

@@ -2,12 +2,13 @@ ghost use Rattle.std.specs.Prelude.{◌≡◌, true, false};
 ghost use Rattle.chv_defs.specs.Machine.{IsSession};
 ghost use Rattle.chv_defs.specs.Desks.{can_have, is_held};
 
-use super::*;
+use crate::common::{numbers, plain_config};
 use chv_defs::{
-    Bytes, ControlCall, ControlReply, CpuConfig, Desk, Hotplug, Info, MemConfig, Row, Rule,
-    SessionEnd, SessionLog, ShownState, Stopped, VmConfig, copy_of,
+    Bytes, ControlCall, ControlReply, Desk, Info, Row, Rule, SessionEnd, SessionLog, ShownState,
+    Stopped, copy_of,
 };
 use chv_io::{Link, MemLink};
+use chv_session::{Next, Session};
 use std::alloc::{AllocError, Global};
 use std::marker::Model;
 use std::test::Fail;
@@ -59,17 +60,7 @@ struct TestDesk {
 /// What is shown of the machine.
 fn machine(alloc: Global) -> Info {
     Info {
-        config: VmConfig {
-            cpus: CpuConfig { boot: 1, max: 1 },
-            memory: MemConfig {
-                size: 536_870_912,
-                hotplug: 0,
-                hotplugged: 0,
-                way: Hotplug::Acpi,
-                zones: Row::empty(alloc),
-            },
-            disks: Row::empty(alloc),
-        },
+        config: plain_config(alloc),
         devices: Row::empty(alloc),
         actual_size: 536_870_912,
         state: ShownState::Created,
@@ -157,7 +148,7 @@ fn play(
     stops_behind: usize,
     turns: usize,
 ) -> Result<Left, AllocError> {
-    let fail = Row::new(vec![in alloc; fail]?);
+    let fail = numbers(alloc, &[fail])?;
     let size = if by_bytes { 1 } else { 4096 };
     let mut link = MemLink::new(alloc, Bytes::of(alloc, stream)?, size, 4096, fail)?;
     let mut desk = TestDesk {
