@@ -9,7 +9,7 @@ use Rattle.chv_session.specs.declared.state.State.{State}
 use Rattle.chv_session.specs.declared.state.State.TheVariants as state
 use Rattle.chv_session.specs.Laws.{Runs}
 use Rattle.chv_session.specs.Moment.{Moment}
-use Rattle.chv_session.specs.Step.{Answers, ComesFrom, ComesTo, LosesFrom, GetsLost, is_over, state_behind}
+use Rattle.chv_session.specs.Step.{Answers, ComesFrom, ComesTo, is_over, state_behind}
 use Rattle.chv_session.specs.Talk.{Talk, new_talk, end_of}
 use Rattle.chv_session.proofs.LawLemmas.{ends_as_session}
 use Rattle.chv_play.specs.Order.{played, IsOrdered}
@@ -31,7 +31,7 @@ answered_from (state.Ended how) before after goes comes = absurd (cc comes.0)
 answered_from state.Lost before after goes comes = absurd comes
 
 -- a session that answered has not ended
-pub answered_goes_on : (before after : Moment) → is_over before.talk.state ≡ false → ComesTo next.Answered before after
+answered_goes_on : (before after : Moment) → is_over before.talk.state ≡ false → ComesTo next.Answered before after
     → is_over after.talk.state ≡ false
 answered_goes_on before after goes comes = answered_from before.talk.state before after goes comes
 
@@ -45,19 +45,9 @@ ended_from (state.Ended other) how before after goes comes = absurd (cc goes)
 ended_from state.Lost how before after goes comes = absurd comes
 
 -- one that says its end has
-pub says_its_end : (how : SessionEnd) (before after : Moment) → is_over before.talk.state ≡ false → ComesTo (next.Ended how) before after
+says_its_end : (how : SessionEnd) (before after : Moment) → is_over before.talk.state ≡ false → ComesTo (next.Ended how) before after
     → after.talk.state ≡ state.Ended how
 says_its_end how before after goes comes = ended_from before.talk.state how before after goes comes
-
-lost_from : (s : State) (before after : Moment) → is_over s ≡ false → LosesFrom s before after → is_over after.talk.state ≡ true
-lost_from state.Open before after goes lost = ap is_over lost.0
-lost_from (state.Leaving how) before after goes lost = ap (λ (t : Talk). is_over t.state) lost.0
-lost_from (state.Ended how) before after goes lost = absurd lost
-lost_from state.Lost before after goes lost = absurd (cc goes)
-
--- and so has one that met want of memory
-pub lost_is_over : (before after : Moment) → is_over before.talk.state ≡ false → GetsLost before after → is_over after.talk.state ≡ true
-lost_is_over before after goes lost = lost_from before.talk.state before after goes lost
 
 -- ---- its calls
 
