@@ -32,7 +32,7 @@ standing_of talk left = record { left = left; taken = length talk.asked; rest = 
 abbrev pub unanswered : Standing → ℕ
 unanswered s = length s.left + length s.rest
 
--- What a session has ahead of it, by where it stands: one turn more than bytes are enough for an open one.
+-- What a session has ahead of it, by where it stands: looking once more than it has bytes that are not answered is enough for an open one.
 abbrev pub ahead_from : State → Talk → List ℕ → Ahead
 ahead_from state.Open talk left = ahead_in (visit_from (suc (unanswered (standing_of talk left))) (standing_of talk left))
 ahead_from (state.Leaving how) talk left = record { turns = Leaves how ∷ []; taken = length talk.asked; how = how }

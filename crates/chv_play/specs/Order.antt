@@ -1,9 +1,11 @@
 -- The calls of a session that is played, as the control history has them: those of its requests, in their order.
-use Rattle.std.specs.Prelude.{◌≡◌, ℕ, true, false, List, [], None}
+use Rattle.std.specs.Prelude.{◌≡◌, ◌≢◌, ℕ, true, false, List, [], None}
 use Rattle.chv_defs.specs.declared.control.ControlEntry.{ControlEntry}
+use Rattle.chv_defs.specs.declared.session.SessionEnd.TheVariants as end
 use Rattle.chv_defs.specs.Desks.{Answer}
 use Rattle.chv_defs.specs.LegalControl.{answers_by}
 use Rattle.chv_defs.specs.SessionBytes.{IsSessionLog}
+use Rattle.chv_session.specs.declared.state.State.TheVariants as state
 use Rattle.chv_session.specs.Laws.{Runs}
 use Rattle.chv_session.specs.Moment.{Moment, moment}
 use Rattle.chv_session.specs.Step.{is_over}
@@ -14,10 +16,12 @@ use Rattle.chv_play.specs.declared.seat.Seat.{Seat}
 abbrev pub played : Talk → List Answer → Moment
 played talk answers = moment talk answers None None 0 0
 
--- Where a session has not ended, answered turns led it here from its start; and where it has ended, these are its calls.
+-- Where a session has not ended, answered turns led it here from its start; and where it has ended, these are its calls. The
+-- run does not stop it.
 pub record IsOrdered (talk : Talk) (answers : List Answer) : Type 0 where
   pub going : is_over talk.state ≡ false → (moments : List Moment) × Runs (played new_talk []) moments (played talk answers)
-  pub over : is_over talk.state ≡ true → IsSessionLog (end_of talk.state) talk.asked talk.replied answers
+  pub leaving : talk.state ≢ state.Leaving end.Stopped
+  pub over : is_over talk.state ≡ true → (end_of talk.state ≢ end.Stopped) × IsSessionLog (end_of talk.state) talk.asked talk.replied answers
 
 -- a seat's session is ordered by its calls in this history
 abbrev pub IsOrderedIn : List ControlEntry → ℕ → Seat → Type 0

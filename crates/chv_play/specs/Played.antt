@@ -1,9 +1,10 @@
 -- What playing sessions comes to.
-use Rattle.std.specs.Prelude.{◌≡◌, true, ℕ, ◌+◌, List, [], ◌∷◌, Option, None, Some, Result, Ok, Err}
+use Rattle.std.specs.Prelude.{◌≡◌, ◌≢◌, true, ℕ, ◌+◌, List, [], ◌∷◌, Option, None, Some, Result, Ok, Err}
 use Rattle.std.specs.List.{AllByRecursion}
 use Rattle.chv_defs.specs.declared.bank.Full.{Full}
 use Rattle.chv_defs.specs.declared.context.StopCause.{StopCause}
 use Rattle.chv_defs.specs.declared.context.StopCause.TheVariants as cause
+use Rattle.chv_defs.specs.declared.session.SessionEnd.TheVariants as end
 use Rattle.chv_defs.specs.declared.control.ControlEntry.{ControlEntry}
 use Rattle.chv_defs.specs.declared.trace.Trace.{Trace}
 use Rattle.chv_defs.specs.declared.machine.Machine.{Machine}
@@ -45,17 +46,18 @@ logs_at session (seat ∷ seats) = log_at session seat ∷ logs_at (session + 1)
 abbrev pub trace_with : List ControlEntry → List SessionTrace → Trace
 trace_with history logs = record { disks = []; vcpus = []; control = history; banks = []; sessions = logs }
 
--- A session made the calls of its requests in order, and then one Bye: its entries in the control history are the calls of a
--- session that asked and replied so and ended so.
+-- A session ended, and was not stopped; and it made the calls of its requests in order, and then one Bye: its entries in the
+-- control history are the calls of a session that asked and replied so and ended so.
 abbrev pub MadeItsCalls : List ControlEntry → SessionTrace → Type 0
 MadeItsCalls history session =
-    IsSessionLog session.log.end session.log.asked session.log.replied (answers_by session.session history)
+    (session.log.end ≢ end.Stopped)
+    × IsSessionLog session.log.end session.log.asked session.log.replied (answers_by session.session history)
 
--- Of each session that is so.
+-- Each of the sessions did so.
 abbrev pub AreInOrder : List ControlEntry → List SessionTrace → Type 0
 AreInOrder history sessions = AllByRecursion (MadeItsCalls history) sessions
 
--- What the sessions left: the trace is the one that was to come, and each session made its calls. Or the book that was full.
+-- What the sessions left makes the trace that is due, and each made its calls in order; or this book is full, as is due.
 abbrev pub Gives : Result Trace Full → List ControlEntry → Result (List SessionTrace) Full → Type 0
 Gives due history (Ok logs) = (due ≡ Ok (trace_with history logs)) × AreInOrder history logs
 Gives due history (Err full) = due ≡ Err full

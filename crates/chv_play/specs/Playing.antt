@@ -9,10 +9,11 @@ use Rattle.chv_defs.specs.Schedule.{Turn, Visit, Stage, turn_of, numbered, all_t
 use Rattle.chv_play.specs.declared.seat.Seat.{Seat}
 use Rattle.chv_play.specs.Ahead.{Ahead, ahead_of}
 
--- what a seat has ahead of it, as a visit
+-- what a seat has ahead of it
 abbrev pub ahead_at : Seat → Ahead
 ahead_at seat = ahead_of seat.session seat.link.left
 
+-- that, as a visit
 abbrev pub visit_ahead : Seat → Visit
 visit_ahead seat = record { turns = (ahead_at seat).turns; taken = (ahead_at seat).taken }
 
