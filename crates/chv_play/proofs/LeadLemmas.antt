@@ -1,166 +1,94 @@
 -- What comes of a turn at the control value is what the schedule says.
-use Rattle.std.proofs.Common.{◌≡◌, ◌≢◌, ◌≤◌, ◌⊎◌, inl, inr, ℕ, ◌==◌, cond, length, drop, get_or, Bool, true, false, List, [], ◌∷◌, ◌++◌, Option, None, Some, IfOk, IfSome, Result, Ok, Err, refl, sym, ap, subst, ◌∙◌, arith}
-use Rattle.chv_defs.specs.declared.rule.Rule.{Rule}
+use Rattle.std.proofs.Common.{◌≡◌, ◌≢◌, ◌≤◌, inl, inr, ℕ, ◌==◌, cond, Bool, true, false, List, [], ◌∷◌, ◌++◌, Option, None, Some, Ok, Err, refl, sym, ap, subst, ◌∙◌, arith}
+use Rattle.std.proofs.lemmas.List.{append-nil, append_cancel_left}
+use Rattle.std.proofs.lemmas.List.Elements.{filter-append}
+use Rattle.std.proofs.lemmas.Grind.{flat_map-append}
+use Rattle.std.proofs.lemmas.Bool.Decides.{nat_tests}
+use Rattle.std.specs.List.{filter, flat_map}
 use Rattle.chv_defs.specs.declared.bank.Full.{Full}
 use Rattle.chv_defs.specs.declared.scene.OnShelf.{OnShelf}
 use Rattle.chv_defs.specs.declared.control.ControlCall.{ControlCall}
 use Rattle.chv_defs.specs.declared.control.ControlCall.TheVariants as call
 use Rattle.chv_defs.specs.declared.control.ControlReply.{ControlReply}
 use Rattle.chv_defs.specs.declared.control.ControlReply.TheVariants as reply
-use Rattle.chv_defs.specs.ApiStep.{reply_to, refusal_of, refused_or, success_of}
-use Rattle.chv_defs.specs.ControlBook.{full_at}
-use Rattle.chv_defs.specs.declared.machine.Machine.{Machine}
-use Rattle.chv_defs.specs.Desks.{Answer, is_holding}
+use Rattle.chv_defs.specs.ApiStep.{reply_to}
+use Rattle.chv_defs.specs.Desks.{Answer, IsOnlyAsked}
+use Rattle.chv_defs.specs.LegalControl.{answers_by}
 use Rattle.chv_defs.specs.Routes.{reply_to_call}
-use Rattle.chv_defs.specs.SessionBytes.{AnsweredBy, Makes, session_limit}
-use Rattle.chv_defs.specs.Requests.{Cuts}
-use Rattle.chv_defs.specs.declared.request.Took.{Took}
-use Rattle.chv_defs.specs.Schedule.{Turn, Stage, Answers, Leaves, with_reply, with_entry, after_turn, replies_to}
+use Rattle.chv_defs.specs.Schedule.{Turn, Answers, Leaves, with_reply, with_entry, after_turn, replies_to}
 use Rattle.chv_defs.specs.Schedule as schedule
-use Rattle.std.proofs.lemmas.List.{append-nil}
-use Rattle.std.proofs.lemmas.List.Elements.{filter-append}
-use Rattle.std.proofs.lemmas.Grind.{flat_map-append}
-use Rattle.std.proofs.lemmas.Bool.Decides.{nat_tests}
-use Rattle.std.specs.List.{filter, flat_map}
-use Rattle.chv_control.specs.declared.inner.Inner.{Inner}
-use Rattle.chv_control.specs.declared.inner.Inner.TheVariants as inner
-use Rattle.chv_control.specs.Control.{Controlled, entered, entry_of, answer_to, unless_full}
-use Rattle.chv_play.specs.Ahead.{Does}
-use Rattle.chv_play.specs.Desk.{ready, given, answers_at}
-use Rattle.chv_play.specs.Round.{IsMade, LiesReady, stage_at, IsSeated, TurnsOut}
-use Rattle.chv_play.specs.Turns.{call_in, with_reply_of, Turned, says_ended}
 use Rattle.chv_session.specs.declared.next.Next.{Next}
-use Rattle.chv_play.proofs.NextLemmas.{TurnedWith}
-use Rattle.chv_play.specs.Outlook.{IsOutlook, IsForeseen, call_ahead, is_last}
-use Rattle.chv_play.specs.Playing.{ahead_at}
-use Rattle.chv_play.specs.declared.seat.Seat.{Seat}
-use Rattle.chv_play.specs.declared.outlook.Outlook.{Outlook}
-use Rattle.chv_session.specs.declared.state.State.{State}
 use Rattle.chv_session.specs.declared.state.State.TheVariants as state
-use Rattle.chv_session.specs.Talk.{Talk}
-use Rattle.chv_session.specs.Step.{is_over}
-
--- ---- the control value's answer
-
-ok_is : {A B : Type 0} (a b : A) → ◌≡◌ {A = Result A B} (Ok a) (Ok b) → a ≡ b
-ok_is a b same = cc
-
-pub made_ahead : {D : Type 0} (shelf : List OnShelf) (caller : ℕ) (c : ControlCall) (old new : Controlled D) (answer : Result ControlReply Inner)
-    (r : ControlReply) → answer ≡ answer_to shelf old caller c → answer ≡ Ok r
-    → IfOk answer (λ reply. new ≡ entered old (record { caller = caller; call = c; reply = reply }))
-    → IsMade shelf caller c old new (Some r) None
-made_ahead {D} shelf caller c old new answer r is ok enters = go (full_at old.machine old.history (entry_of shelf old.machine caller c)) refl
-  where
-    go : (f : Option Full) → full_at old.machine old.history (entry_of shelf old.machine caller c) ≡ f → IsMade shelf caller c old new (Some r) None
-    go None none =
-        let same : ◌≡◌ {A = Result ControlReply Inner} (Ok r) (Ok (reply_to shelf old.machine c)) =
-        sym ok ∙ is ∙ ap (λ (f : Option Full). unless_full f (reply_to shelf old.machine c)) none in
-        let r_is : r ≡ reply_to shelf old.machine c = ok_is r (reply_to shelf old.machine c) same in
-        let entry : new ≡ entered old (record { caller = caller; call = c; reply = r }) =
-        subst (λ (a : Result ControlReply Inner). IfOk a (λ reply. new ≡ entered old (record { caller = caller; call = c; reply = reply }))) ok enters in
-        (none, ap Some r_is, entry ∙ ap (λ (x : ControlReply). entered old (record { caller = caller; call = c; reply = x })) r_is)
-    go (Some full) some =
-        let same : ◌≡◌ {A = Result ControlReply Inner} (Ok r) (Err (inner.Full full)) =
-        sym ok ∙ is ∙ ap (λ (f : Option Full). unless_full f (reply_to shelf old.machine c)) some in
-        absurd (cc same)
-
-pub found_full : {D : Type 0} (shelf : List OnShelf) (caller : ℕ) (c : ControlCall) (old new : Controlled D) (answer : Result ControlReply Inner)
-    (full : Full) (r : ControlReply) → answer ≡ answer_to shelf old caller c → answer ≡ Err (inner.Full full) → new ≡ old
-    → IsMade shelf caller c old new (Some r) (Some full)
-found_full {D} shelf caller c old new answer full r is err same = go (full_at old.machine old.history (entry_of shelf old.machine caller c)) refl
-  where
-    go : (f : Option Full) → full_at old.machine old.history (entry_of shelf old.machine caller c) ≡ f → IsMade shelf caller c old new (Some r) (Some full)
-    go None none =
-        let wrong : ◌≡◌ {A = Result ControlReply Inner} (Err (inner.Full full)) (Ok (reply_to shelf old.machine c)) =
-        sym err ∙ is ∙ ap (λ (f : Option Full). unless_full f (reply_to shelf old.machine c)) none in
-        absurd (cc wrong)
-    go (Some other) some =
-        let e : ◌≡◌ {A = Result ControlReply Inner} (Err (inner.Full full)) (Err (inner.Full other)) =
-        sym err ∙ is ∙ ap (λ (f : Option Full). unless_full f (reply_to shelf old.machine c)) some in
-        let full_is : full ≡ other = cc in
-        (some ∙ ap Some (sym full_is), same, (r, refl))
-
--- no answer of a machine that is not booted is Holding
-not_holding : (m : Machine) (refusal : Option Rule) (c : ControlCall) → is_holding (refused_or refusal (success_of m c)) ≡ false
-not_holding m (Some rule) c = refl
-not_holding m None call.Info = refl
-not_holding m None c = refl
-
-pub never_holding : (shelf : List OnShelf) (m : Machine) (c : ControlCall) (r : ControlReply) → r ≡ reply_to shelf m c → is_holding r ≡ false
-never_holding shelf m c r is = ap is_holding is ∙ not_holding m (refusal_of shelf m c) c
-
--- ---- the answer that was given
-
-ready_is : (a b : Option ControlReply) → ready a ≡ ready b → a ≡ b
-ready_is None None same = refl
-ready_is (Some a) (Some b) same = let e : a ≡ b = ap (λ (x : Answer). x.reply) same in ap Some e
-ready_is None (Some b) same = absurd (cc (ap (λ (x : Answer). x.call) same))
-ready_is (Some a) None same = absurd (cc (ap (λ (x : Answer). x.call) same))
-
-same_lists : (laid laid_after : Option ControlReply) (before after made : List Answer) → before ≡ [] → ready laid_after ∷ after ≡ (ready laid ∷ before) ++ made
-    → (laid_after ≡ laid) × (after ≡ made)
-same_lists laid laid_after before after made none is =
-    let plain : ready laid_after ∷ after ≡ ready laid ∷ made = is ∙ ap (λ (l : List Answer). ready laid ∷ (l ++ made)) none in
-    (ready_is laid_after laid (ap (λ (l : List Answer). get_or l 0 (ready laid)) plain), ap (λ (l : List Answer). drop 1 l) plain)
-
-nothing_given : (laid : Option ControlReply) → given laid None ≡ []
-nothing_given None = refl
-nothing_given (Some r) = refl
-
--- the calls that were made are what was given of what lay ready
-pub given_is : (laid laid_after : Option ControlReply) (called : Option ControlCall) (made : List Answer)
-    → answers_at laid_after called ≡ answers_at laid None ++ made → made ≡ given laid called
-given_is laid laid_after called made is =
-    let both = same_lists laid laid_after (given laid None) (given laid_after called) made (nothing_given laid) is in
-    sym both.1 ∙ ap (λ (l : Option ControlReply). given l called) both.0
-
-one_given : (c called : ControlCall) (r : ControlReply) (answer : Answer) → Makes c (record { call = called; reply = r } ∷ []) answer
-    → (answer.call ≡ c) × (answer.reply ≡ r)
-one_given c called r answer (_, inl one) = (one.0, sym (ap (λ (l : List Answer). (get_or l 0 answer).reply) one.1))
-one_given c called r answer (_, inr two) = let e = ap length two.1 in absurd (omega (arith, e))
-
-none_given : {A : Type 0} (c : ControlCall) (answer : Answer) → Makes c [] answer → A
-none_given c answer (_, inl one) = let e = ap length one.1 in absurd (omega (arith, e))
-none_given c answer (_, inr two) = let e = ap length two.1 in absurd (omega (arith, e))
-
-makes_is : (c : ControlCall) (r : ControlReply) (laid : Option ControlReply) (called : Option ControlCall) (answer : Answer) → laid ≡ Some r
-    → Makes c (given laid called) answer → (answer.call ≡ c) × (answer.reply ≡ r)
-makes_is c r laid None answer is makes =
-    none_given c answer (subst (λ (l : Option ControlReply). Makes c (given l None) answer) is makes)
-makes_is c r laid (Some called) answer is makes =
-    one_given c called r answer (subst (λ (l : Option ControlReply). Makes c (given l (Some called)) answer) is makes)
+use Rattle.chv_session.specs.Moment.{moment}
+use Rattle.chv_session.specs.Step.{ComesTo, is_over}
+use Rattle.chv_session.specs.Taking.{TakesPieces}
+use Rattle.chv_session.specs.Wire.{Drains}
+use Rattle.chv_store.specs.declared.any_disk.AnyDisk.{AnyDisk}
+use Rattle.chv_control.specs.Control.{Controlled}
+use Rattle.chv_control.specs.Shelf.{shelf_of}
+use Rattle.chv_play.specs.declared.desk.PlayDesk.{PlayDesk}
+use Rattle.chv_play.specs.declared.desk.Refused.{Refused}
+use Rattle.chv_play.specs.declared.seat.Seat.{Seat}
+use Rattle.chv_play.specs.Ahead.{Does}
+use Rattle.chv_play.specs.Desk.{call_of, full_of, full_for}
+use Rattle.chv_play.specs.Order.{played}
+use Rattle.chv_play.specs.Round.{stage_at, TurnsOut}
+use Rattle.chv_play.specs.Turns.{call_in, with_reply_of, TurnedOrHalted}
+use Rattle.chv_play.proofs.DeskLemmas.{Enters, enters_stays, enters_no_other, never_holding, TellsFull, CallsLeave, asks_at, asked_leaves}
+use Rattle.chv_play.proofs.NextLemmas.{turned_or_halted}
+use Rattle.chv_play.proofs.OrderLemmas.{turn_ordered}
 
 -- ---- what the schedule says
 
-pub leads : {D : Type 0} (shelf : List OnShelf) (caller : ℕ) (turn : Turn) (old new : Controlled D) (laid : Option ControlReply)
-    (called : Option ControlCall) (bytes : List ℕ) → LiesReady shelf caller (call_in turn) old new laid None
-    → Does turn (given laid called) bytes → (replies : List (ℕ × List ℕ))
-    → after_turn shelf (stage_at old replies) caller turn ≡ Ok (stage_at new (with_reply_of turn caller bytes replies))
-leads {D} shelf caller (Answers (Err rule) last) old new laid called bytes lies does replies =
-    ap (λ (b : List ℕ). Ok (stage_at old (replies ++ (caller, b) ∷ []))) (sym does.1)
-    ∙ ap (λ (x : Controlled D). Ok (stage_at x (replies ++ (caller, bytes) ∷ []))) (sym lies.0)
-leads {D} shelf caller (Answers (Ok c) last) old new laid called bytes lies does replies =
-    let r = reply_to shelf old.machine c in
-    let s = stage_at old replies in
-    let is = makes_is c r laid called does.0 lies.1 does.1 in
-    let bytes_are : reply_to_call c r last ≡ bytes =
-    sym (does.2 ∙ ap (λ (x : ControlCall). reply_to_call x does.0.reply last) is.0 ∙ ap (λ (x : ControlReply). reply_to_call c x last) is.1) in
-    ap (λ (f : Option Full). schedule.unless_full f (with_reply caller (reply_to_call c r last) (with_entry shelf caller c s))) lies.0
-    ∙ ap (λ (b : List ℕ). Ok (with_reply caller b (with_entry shelf caller c s))) bytes_are
-    ∙ ap (λ (x : Controlled D). Ok (stage_at x (replies ++ (caller, bytes) ∷ []))) (sym lies.2)
-leads {D} shelf caller (Leaves how) old new laid called bytes lies does replies =
-    ap (λ (f : Option Full). schedule.unless_full f (with_entry shelf caller call.Bye (stage_at old replies))) lies.0
-    ∙ ap (λ (x : Controlled D). Ok (stage_at x replies)) (sym lies.2)
+-- a call that is answered Holding was not entered
+held_never : {A D : Type 0} (shelf : List OnShelf) (caller : ℕ) (c : ControlCall) (more : List Answer) (old new : Controlled D)
+    → Enters shelf caller old (record { call = c; reply = reply.Holding } ∷ more) new → A
+held_never {A} {D} shelf caller c more old new enters = absurd (cc (never_holding shelf old.machine c reply.Holding enters.1))
 
-pub leads_full : {D : Type 0} (shelf : List OnShelf) (caller : ℕ) (turn : Turn) (old new : Controlled D) (laid : Option ControlReply)
-    (full : Full) → LiesReady shelf caller (call_in turn) old new laid (Some full) → (replies : List (ℕ × List ℕ))
+-- the one call of a turn was entered
+one_entered : {D : Type 0} (shelf : List OnShelf) (caller : ℕ) (c : ControlCall) (answer : Answer) (made : List Answer) (old new : Controlled D)
+    → Enters shelf caller old made new → made ≡ answer ∷ [] → answer.call ≡ c
+    → Enters shelf caller old (record { call = c; reply = answer.reply } ∷ []) new
+one_entered {D} shelf caller c answer made old new enters is same =
+    subst (λ (calls : List Answer). Enters shelf caller old calls new)
+    (is ∙ ap (λ (x : ControlCall). record { call = x; reply = answer.reply } ∷ []) same) enters
+
+pub leads : {D : Type 0} (shelf : List OnShelf) (caller : ℕ) (turn : Turn) (old new : Controlled D) (made : List Answer) (bytes : List ℕ)
+    → Enters shelf caller old made new → Does turn made bytes → (replies : List (ℕ × List ℕ))
+    → after_turn shelf (stage_at old replies) caller turn ≡ Ok (stage_at new (with_reply_of turn caller bytes replies))
+leads {D} shelf caller (Answers (Err rule) last) old new made bytes enters does replies =
+    let same : new ≡ old = subst (λ (calls : List Answer). Enters shelf caller old calls new) does.0 enters in
+    ap (λ (b : List ℕ). Ok (stage_at old (replies ++ (caller, b) ∷ []))) (sym does.1)
+    ∙ ap (λ (x : Controlled D). Ok (stage_at x (replies ++ (caller, bytes) ∷ []))) (sym same)
+leads {D} shelf caller (Answers (Ok c) last) old new made bytes enters (answer, (goes, inl one), is) replies =
+    let s = stage_at old replies in
+    let entry = one_entered shelf caller c answer made old new enters one.1 one.0 in
+    let bytes_are : reply_to_call c (reply_to shelf old.machine c) last ≡ bytes =
+    sym (is ∙ ap (λ (x : ControlCall). reply_to_call x answer.reply last) one.0 ∙ ap (λ (x : ControlReply). reply_to_call c x last) entry.1) in
+    ap (λ (f : Option Full). schedule.unless_full f (with_reply caller (reply_to_call c (reply_to shelf old.machine c) last) (with_entry shelf caller c s))) entry.0
+    ∙ ap (λ (b : List ℕ). Ok (with_reply caller b (with_entry shelf caller c s))) bytes_are
+    ∙ ap (λ (x : Controlled D). Ok (stage_at x (replies ++ (caller, bytes) ∷ []))) (sym entry.2)
+leads {D} shelf caller (Answers (Ok c) last) old new made bytes enters (answer, (goes, inr two), is) replies =
+    held_never shelf caller c (answer ∷ []) old new (subst (λ (calls : List Answer). Enters shelf caller old calls new) two.1 enters)
+leads {D} shelf caller (Leaves how) old new made bytes enters (bye, is_bye, made_is, none) replies =
+    let entry = one_entered shelf caller call.Bye bye made old new enters made_is is_bye in
+    ap (λ (f : Option Full). schedule.unless_full f (with_entry shelf caller call.Bye (stage_at old replies))) entry.0
+    ∙ ap (λ (x : Controlled D). Ok (stage_at x replies)) (sym entry.2)
+
+some_is : (a b : ControlCall) → Some a ≡ Some b → a ≡ b
+some_is a b same = cc
+
+pub leads_full : {D : Type 0} (shelf : List OnShelf) (caller : ℕ) (turn : Turn) (c : ControlCall) (old : Controlled D) (full : Full)
+    → call_in turn ≡ Some c → full_for shelf old caller c ≡ Some full → (replies : List (ℕ × List ℕ))
     → after_turn shelf (stage_at old replies) caller turn ≡ Err full
-leads_full {D} shelf caller (Answers (Err rule) last) old new laid full lies replies = absurd (cc lies.2)
-leads_full {D} shelf caller (Answers (Ok c) last) old new laid full lies replies =
-    let r = reply_to shelf old.machine c in
-    ap (λ (f : Option Full). schedule.unless_full f (with_reply caller (reply_to_call c r last) (with_entry shelf caller c (stage_at old replies)))) lies.0
-leads_full {D} shelf caller (Leaves how) old new laid full lies replies =
-    ap (λ (f : Option Full). schedule.unless_full f (with_entry shelf caller call.Bye (stage_at old replies))) lies.0
+leads_full {D} shelf caller (Answers (Err rule) last) c old full is finds replies = absurd (cc is)
+leads_full {D} shelf caller (Answers (Ok made) last) c old full is finds replies =
+    let same : made ≡ c = some_is made c is in
+    ap (λ (f : Option Full). schedule.unless_full f (with_reply caller (reply_to_call made (reply_to shelf old.machine made) last)
+    (with_entry shelf caller made (stage_at old replies)))) (ap (full_for shelf old caller) same ∙ finds)
+leads_full {D} shelf caller (Leaves how) c old full is finds replies =
+    let same : call.Bye ≡ c = some_is call.Bye c is in
+    ap (λ (f : Option Full). schedule.unless_full f (with_entry shelf caller call.Bye (stage_at old replies))) (ap (full_for shelf old caller) same ∙ finds)
 
 -- ---- replies
 
@@ -197,70 +125,101 @@ puts_no_other (Leaves how) session other bytes replies differs = refl
 
 -- ---- a whole turn
 
--- the call of the turn is the one that was seen ahead, and what is seen then is what is ahead
-abbrev Matches : Option ControlCall → Option ControlCall → Bool → List ℕ → Talk → List ℕ → Type 0
-Matches made seen is_leaving bytes new left_after = (made ≡ seen) × IsOutlook new.state is_leaving bytes new left_after
+-- What `next` says of a seat's session at the desk, of whose stream a read gives so much.
+pub record SaysAt {D : Type 0} (most : ℕ) (count : AnyDisk D → ℕ) (said : Next) (desk desk_after : PlayDesk D) (seat after : Seat) : Type 0 where
+  pub many : 4096 ≤ most
+  pub goes : is_over seat.session.state ≡ false
+  pub takes : TakesPieces seat.session.asked after.session.asked seat.session.rest (Some seat.link.left) (Some after.link.left) None None (Some most)
+  pub drains : seat.session.state ≡ state.Open → Drains said seat.session.asked after.session.asked seat.session.rest 0 0 (Some after.link.left)
+  pub rests : seat.session.state ≢ state.Open → after.link.left ≡ seat.link.left
+  pub comes : ComesTo said
+      (moment seat.session (answers_by desk.caller desk.control.history) (call_of desk.refused) None 0 0)
+      (moment after.session (answers_by desk_after.caller desk_after.control.history) (call_of desk_after.refused) None 0 0)
+  pub stays : desk_after.caller ≡ desk.caller
+  pub asked : IsOnlyAsked (asks_at count) desk desk_after
 
-matches : (s : State) (made seen : Option ControlCall) (was_leaving is_leaving : Bool) (was bytes : List ℕ) (old new : Talk) (left left_after : List ℕ)
-    → is_over s ≡ false → IsOutlook s was_leaving was old left → IsForeseen s made old new left left_after
-    → (was_leaving ≡ true → seen ≡ Some call.Bye)
-    → (was_leaving ≡ false → (what : Took) × Cuts was what bytes × (seen ≡ call_ahead what) × (is_leaving ≡ is_last what))
-    → Matches made seen is_leaving bytes new left_after
-matches state.Open made seen was_leaving is_leaving was bytes old new left left_after goes outlook foreseen leaving sees =
-    let saw = sees outlook.0 in
-    let is = foreseen saw.0 bytes (subst (λ (b : List ℕ). Cuts b saw.0 bytes) outlook.1 saw.1) in
-    (is.0 ∙ sym saw.2, subst (λ (b : Bool). IsOutlook new.state b bytes new left_after) (sym saw.3) is.1)
-matches (state.Leaving how) made seen was_leaving is_leaving was bytes old new left left_after goes outlook foreseen leaving sees =
-    (foreseen.0 ∙ sym (leaving outlook), foreseen.1 is_leaving bytes)
-matches (state.Ended how) made seen was_leaving is_leaving was bytes old new left left_after goes outlook foreseen leaving sees = absurd (cc goes)
-matches state.Lost made seen was_leaving is_leaving was bytes old new left left_after goes outlook foreseen leaving sees = absurd (cc goes)
+-- a desk at the turn of this caller
+abbrev pub at_turn : {D : Type 0} → PlayDesk D → ℕ → PlayDesk D
+at_turn desk caller = record desk { caller = caller; refused = None }
 
-pub turns_out : {D : Type 0} (shelf : List OnShelf) (caller : ℕ) (old new : Controlled D) (seat after : Seat) (outlook : Outlook) (seen : Option ControlCall)
-    (laid : Option ControlReply) (full : Option Full) → IsSeated seat → is_over seat.session.state ≡ false
-    → (seat.outlook.is_leaving ≡ true → seen ≡ Some call.Bye)
-    → (seat.outlook.is_leaving ≡ false → (what : Took) × Cuts seat.outlook.parser what outlook.parser × (seen ≡ call_ahead what) × (outlook.is_leaving ≡ is_last what))
-    → LiesReady shelf caller seen old new laid full
-    → ((called : Option ControlCall) × Turned seat.session after.session seat.link.left after.link.left (given laid called))
-    → length after.session.asked ≤ session_limit → after.outlook ≡ outlook → after.is_over ≡ is_over after.session.state
-    → TurnsOut shelf caller old new seat after full
-turns_out {D} shelf caller old new seat after outlook seen laid full seated goes leaving sees lies took within outlook_is over = go full lies
+turns_at : {D : Type 0} (most : ℕ) (count : AnyDisk D → ℕ) (said : Next) (desk desk_after : PlayDesk D) (caller : ℕ) (seat after : Seat)
+    → SaysAt most count said (at_turn desk caller) desk_after seat after
+    → TurnsOut (shelf_of count desk.control.disks) caller desk.control desk_after.control seat after (full_of desk_after.refused)
+turns_at {D} most count said desk desk_after caller seat after says = go desk_after.refused refl turned
   where
-    is : Matches (call_in took.1.turn) seen outlook.is_leaving outlook.parser after.session after.link.left
-    is = matches seat.session.state (call_in took.1.turn) seen seat.outlook.is_leaving outlook.is_leaving seat.outlook.parser outlook.parser
-        seat.session after.session seat.link.left after.link.left goes seated.outlook took.1.foreseen leaving sees
+    shelf : List OnShelf
+    shelf = shelf_of count desk.control.disks
 
-    go : (full : Option Full) → LiesReady shelf caller seen old new laid full → TurnsOut shelf caller old new seat after full
-    go None lies = record {
-      turn = took.1.turn;
-      reply = took.1.reply;
-      more = took.1.more;
-      first = took.1.first;
-      asks = took.1.asks;
-      gives = took.1.gives;
-      puts = λ replies is. puts took.1.turn caller (given laid took.0) took.1.reply seat.session.replied after.session.replied replies took.1.does took.1.replied is;
-      puts_no_other = λ replies other differs. puts_no_other took.1.turn caller other took.1.reply replies differs;
-      seated = record {
-        within = within;
-        over = over;
-        outlook = subst (λ (o : Outlook). IsOutlook after.session.state o.is_leaving o.parser after.session after.link.left) (sym outlook_is) is.1;
-      };
-      leads = leads shelf caller took.1.turn old new laid took.0 took.1.reply
-          (subst (λ (c : Option ControlCall). LiesReady shelf caller c old new laid None) (sym is.0) lies) took.1.does;
-    }
-    go (Some full) lies = record {
-      turn = took.1.turn;
-      after = after;
-      first = took.1.first;
-      leads = leads_full shelf caller took.1.turn old new laid full
-          (subst (λ (c : Option ControlCall). LiesReady shelf caller c old new laid (Some full)) (sym is.0) lies);
-    }
+    leaves : CallsLeave shelf (at_turn desk caller) desk_after
+    leaves = asked_leaves count (at_turn desk caller) desk_after says.asked
 
--- the calls of a step are what was given of what lay ready
-pub step_gives : (old new : Talk) (left left_after : List ℕ) (laid laid_after : Option ControlReply) (asked called : Option ControlCall)
-    (ended : Bool) (said : Next) → ended ≡ says_ended said → asked ≡ None
-    → TurnedWith said old new left left_after (answers_at laid asked) (answers_at laid_after called)
-    → ((given_to : Option ControlCall) × Turned old new left left_after (given laid given_to)) × (ended ≡ is_over new.state)
-step_gives old new left left_after laid laid_after asked called ended said says unasked took =
-    let is : took.0 ≡ given laid called =
-    given_is laid laid_after called took.0 (took.1 ∙ ap (λ (a : Option ControlCall). answers_at laid a ++ took.0) unasked) in
-    ((called, subst (λ (m : List Answer). Turned old new left left_after m) is took.2), says ∙ took.3)
+    answers : List Answer
+    answers = answers_by caller desk.control.history
+
+    answers_after : List Answer
+    answers_after = answers_by caller desk_after.control.history
+
+    made_is : (made : List Answer) → answers_after ≡ answers ++ made → leaves.made ≡ made
+    made_is made calls = append_cancel_left answers leaves.made made (sym leaves.answers ∙ calls)
+
+    entered : (made : List Answer) → answers_after ≡ answers ++ made → Enters shelf caller desk.control made desk_after.control
+    entered made calls = subst (λ (calls : List Answer). Enters shelf caller desk.control calls desk_after.control) (made_is made calls) leaves.enters
+
+    comes : ComesTo said (played seat.session answers) (moment after.session answers_after (call_of desk_after.refused) None 0 0)
+    comes = subst (λ (n : ℕ). ComesTo said (played seat.session answers)
+        (moment after.session (answers_by n desk_after.control.history) (call_of desk_after.refused) None 0 0)) says.stays says.comes
+
+    turned : TurnedOrHalted seat.session after.session seat.link.left after.link.left answers answers_after (call_of desk_after.refused)
+    turned = turned_or_halted most said seat.session after.session seat.link.left after.link.left answers answers_after (call_of desk_after.refused) (record {
+      many = says.many;
+      goes = says.goes;
+      takes = says.takes;
+      drains = says.drains;
+      rests = says.rests;
+      comes = comes;
+      none_holds = λ c made calls holds. held_never shelf caller c [] desk.control desk_after.control
+          (subst (λ (calls : List Answer). Enters shelf caller desk.control calls desk_after.control) holds (entered made calls));
+    })
+
+    go : (refused : Option Refused) → desk_after.refused ≡ refused
+        → TurnedOrHalted seat.session after.session seat.link.left after.link.left answers answers_after (call_of refused)
+        → TurnsOut shelf caller desk.control desk_after.control seat after (full_of refused)
+    go None is (made, calls, took) = record {
+      turn = took.turn;
+      reply = took.reply;
+      more = took.more;
+      first = took.first;
+      asks = took.asks;
+      gives = took.gives;
+      puts = λ replies is. puts took.turn caller made took.reply seat.session.replied after.session.replied replies took.does took.replied is;
+      puts_no_other = λ replies other differs. puts_no_other took.turn caller other took.reply replies differs;
+      leads = leads shelf caller took.turn desk.control desk_after.control made took.reply (entered made calls) took.does;
+      calls = turn_ordered said seat.session after.session answers answers_after says.goes
+          (subst (λ (r : Option Refused). ComesTo said (played seat.session answers) (moment after.session answers_after (call_of r) None 0 0)) is comes);
+      calls_no_other = λ other differs. enters_no_other shelf caller other desk.control made desk_after.control differs (entered made calls);
+    }
+    go (Some refused) is (same, halts) =
+        let none = made_is [] (same ∙ sym (append-nil answers)) in
+        let tells : full_for shelf desk.control caller refused.call ≡ Some refused.full =
+        subst (TellsFull shelf caller desk.control) is (leaves.tells none tt) in
+        record {
+          turn = halts.turn;
+          rest = halts.rest;
+          first = halts.first;
+          leads = leads_full shelf caller halts.turn refused.call desk.control refused.full halts.makes tells;
+        }
+
+pub turns_out : {D : Type 0} (most : ℕ) (count : AnyDisk D → ℕ) (said : Next) (desk begun desk_after : PlayDesk D) (caller : ℕ) (seat after : Seat)
+    → begun ≡ at_turn desk caller → SaysAt most count said begun desk_after seat after
+    → TurnsOut (shelf_of count desk.control.disks) caller desk.control desk_after.control seat after (full_of desk_after.refused)
+turns_out {D} most count said desk begun desk_after caller seat after is says =
+    turns_at most count said desk desk_after caller seat after (subst (λ (d : PlayDesk D). SaysAt most count said d desk_after seat after) is says)
+
+-- whatever `next` answers, the disks stay, and the number of sessions
+pub turn_stays : {D : Type 0} (count : AnyDisk D → ℕ) (desk begun desk_after : PlayDesk D) (caller : ℕ) → begun ≡ at_turn desk caller
+    → IsOnlyAsked (asks_at count) begun desk_after
+    → (desk_after.control.disks ≡ desk.control.disks) × (desk_after.control.sessions ≡ desk.control.sessions)
+turn_stays {D} count desk begun desk_after caller is asked =
+    let leaves = asked_leaves count begun desk_after asked in
+    let stays = enters_stays (shelf_of count begun.control.disks) begun.caller begun.control leaves.made desk_after.control leaves.enters in
+    (stays.0 ∙ ap (λ (d : PlayDesk D). d.control.disks) is, stays.1 ∙ ap (λ (d : PlayDesk D). d.control.sessions) is)

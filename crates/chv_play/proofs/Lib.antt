@@ -3,10 +3,11 @@ pub mod VisitLemmas
 pub mod RoundLemmas
 pub mod TurnLemmas
 pub mod PartLemmas
+pub mod EachLemmas
 pub mod SeatLemmas
-pub mod OutlookLemmas
 pub mod NextLemmas
-pub mod CallLemmas
+pub mod OrderLemmas
+pub mod DeskLemmas
 pub mod LeadLemmas
 pub mod RoundLoopLemmas
 pub mod PlayedLemmas

@@ -1,236 +1,277 @@
--- What the contract of `next` says of a session at its stream: it took the first of the turns ahead of it.
-use Rattle.std.proofs.Common.{◌≡◌, ◌≢◌, ◌≤◌, ◌<◌, ◌⊎◌, inl, inr, ℕ, ◌+◌, Bool, true, false, List, [], ◌∷◌, ◌++◌, length, take, ◌-◌, Option, None, Some, IfSome, Result, Ok, Err, refl, sym, ap, subst, ◌∙◌, arith}
-use Rattle.std.specs.List.{concat}
-use Rattle.std.proofs.Math.Seq.{take-nil}
-use Rattle.std.proofs.lemmas.List.{append_cancel_left, append-nil}
+-- What the contract of `next` says of a session at its stream: it took the first of the turns ahead of it, or the call of
+-- that turn was refused.
+use Rattle.std.proofs.Common.{◌≡◌, ◌≢◌, ◌≤◌, ◌<◌, ◌⊎◌, inl, inr, ℕ, true, false, List, [], ◌∷◌, ◌++◌, length, Option, None, Some, Result, Err, refl, sym, ap, subst, ◌∙◌, arith}
+use Rattle.std.proofs.lemmas.List.{append-nil}
 use Rattle.chv_defs.specs.declared.rule.Rule.{Rule}
-use Rattle.chv_defs.specs.declared.request.Request.{Request}
+use Rattle.chv_defs.specs.declared.control.ControlCall.{ControlCall}
 use Rattle.chv_defs.specs.declared.control.ControlCall.TheVariants as call
 use Rattle.chv_defs.specs.declared.session.SessionEnd.{SessionEnd}
 use Rattle.chv_defs.specs.declared.session.SessionEnd.TheVariants as end
 use Rattle.chv_defs.specs.Desks.{Answer}
 use Rattle.chv_defs.specs.Outside.{Rose}
-use Rattle.chv_defs.specs.Requests.{BeginsWith, IsShort}
-use Rattle.chv_defs.specs.Routes.{call_of_request, refusal_bytes}
-use Rattle.chv_defs.specs.SessionBytes.{Answered, IsBad, session_limit}
-use Rattle.chv_defs.specs.Schedule.{Turn, next_piece, end_at}
+use Rattle.chv_defs.specs.Requests.{IsShort}
+use Rattle.chv_defs.specs.Routes.{call_of_request}
+use Rattle.chv_defs.specs.SessionBytes.{Holds, session_limit}
+use Rattle.chv_defs.specs.Schedule.{Turn}
 use Rattle.chv_defs.specs.Schedule as schedule
 use Rattle.chv_session.specs.declared.next.Next.{Next}
 use Rattle.chv_session.specs.declared.next.Next.TheVariants as next
 use Rattle.chv_session.specs.declared.state.State.{State}
 use Rattle.chv_session.specs.declared.state.State.TheVariants as state
 use Rattle.chv_session.specs.Talk.{Talk}
-use Rattle.chv_session.specs.Moment.{Moment, Faults, faults}
+use Rattle.chv_session.specs.Moment.{moment, faults}
 use Rattle.chv_session.specs.Taking.{TakesPieces}
-use Rattle.chv_session.specs.Wire.{Drains}
+use Rattle.chv_session.specs.Wire.{Drains, HasReadFault}
 use Rattle.chv_session.specs.Response.{Leaves}
-use Rattle.chv_session.specs.Step.{Step, Answers, ComesToEnd, EndsBy, Outcome, ComesFrom, ComesTo, is_over, state_behind}
-use Rattle.chv_play.specs.Turns.{Turned, call_in, says_ended}
-use Rattle.chv_play.proofs.FilledLemmas.{stand}
-use Rattle.chv_play.specs.Ahead.{ahead_of, with_first}
-use Rattle.chv_play.proofs.OutlookLemmas.{asked_within, foreseen_request, foreseen_bad, foreseen_end, foreseen_leaving}
-use Rattle.chv_play.proofs.TurnLemmas.{answers_request, answers_bad, ends_short, nothing_is_short, drained, at_limit, end_nothing, end_part, end_limit, leaves_is}
+use Rattle.chv_session.specs.Step.{Answers, ComesToEnd, Stops, EndsBy, Refuses, ComesFrom, ComesTo, is_over, state_behind}
+use Rattle.chv_play.specs.Ahead.{ahead_of, ahead_from, with_first}
+use Rattle.chv_play.specs.Order.{played}
+use Rattle.chv_play.specs.Turns.{Turned, Halts, TurnedOrHalted, call_in}
+use Rattle.chv_play.proofs.TurnLemmas.{Fed, hand_of, gives_is, answers_request, answers_bad, ends_short, nothing_is_short, drained, at_limit, end_nothing, end_part, end_limit}
 
--- a turn, with the calls that were made in it
-abbrev pub TurnedWith : Next → Talk → Talk → List ℕ → List ℕ → List Answer → List Answer → Type 0
-TurnedWith what old new left left_after answers answers_after =
-    (made : List Answer) × (answers_after ≡ answers ++ made) × Turned old new left left_after made × (says_ended what ≡ is_over new.state)
-
--- what was taken of the stream is what was asked
-given_is : (asked asked_after rest left left_after more : List ℕ) (gave gave_after : Option (List ℕ)) (most : ℕ)
-    → TakesPieces asked asked_after rest (Some left) (Some left_after) gave gave_after (Some most) → asked_after ≡ asked ++ more
-    → left ≡ more ++ left_after
-given_is asked asked_after rest left left_after more gave gave_after most takes grows =
-    takes.loses ∙ ap (λ (m : List ℕ). m ++ left_after) (append_cancel_left asked (concat takes.pieces) more (sym takes.grows ∙ grows))
+-- What a call of `next` says of a session at its stream, of which a read gives so much, and nothing fails: it had not ended
+-- before, its caller's calls grew so, none of them answered Holding, and this one was refused.
+pub record Says (most : ℕ) (said : Next) (old new : Talk) (left left_after : List ℕ) (answers answers_after : List Answer) (refused : Option ControlCall) : Type 0 where
+  pub many : 4096 ≤ most
+  pub goes : is_over old.state ≡ false
+  pub takes : TakesPieces old.asked new.asked old.rest (Some left) (Some left_after) None None (Some most)
+  pub drains : old.state ≡ state.Open → Drains said old.asked new.asked old.rest 0 0 (Some left_after)
+  pub rests : old.state ≢ state.Open → left_after ≡ left
+  pub comes : ComesTo said (played old answers) (moment new answers_after refused None 0 0)
+  pub none_holds : (c : ControlCall) (made : List Answer) → answers_after ≡ answers ++ made → Holds c made → ⊥
 
 -- ---- an answer
 
-answered : (most : ℕ) (old new : Talk) (left left_after : List ℕ) (gave gave_after : Option (List ℕ)) (more reply : List ℕ) (made : List Answer)
-    → 4096 ≤ most → TakesPieces old.asked new.asked old.rest (Some left) (Some left_after) gave gave_after (Some most)
-    → old.state ≡ state.Open → length old.asked ≤ session_limit → new.asked ≡ old.asked ++ more → new.replied ≡ old.replied ++ reply
-    → Answers new.state (old.rest ++ more) new.rest reply made → Turned old new left left_after made
-answered most old new left left_after gave gave_after more reply made many takes opened few grows replied (inl request) = record {
+answered : (most : ℕ) (old new : Talk) (left left_after more reply : List ℕ) (made : List Answer) → Fed most old new left left_after more
+    → new.replied ≡ old.replied ++ reply → Answers new.state (old.rest ++ more) new.rest reply made → Turned old new left left_after made
+answered most old new left left_after more reply made fed replied (inl request) = record {
   turn = schedule.Answers (call_of_request request.0) request.0.last;
   reply = reply;
   more = more;
-  first = answers_request most old new left left_after more gave gave_after request.0 many takes grows opened request.1 request.3;
-  asks = grows;
-  gives = given_is old.asked new.asked old.rest left left_after more gave gave_after most takes grows;
+  first = answers_request most old new left left_after more request.0 fed request.1
+      ∙ ap (λ (s : State). with_first (schedule.Answers (call_of_request request.0) request.0.last) (ahead_from s new left_after)) (sym request.3);
+  asks = fed.grows;
+  gives = gives_is most old new left left_after more fed;
   replied = replied;
   does = request.2;
-  foreseen = foreseen_request old new left left_after more request.0 opened
-      (given_is old.asked new.asked old.rest left left_after more gave gave_after most takes grows) grows
-      (asked_within old.asked new.asked old.rest (Some left) (Some left_after) gave gave_after (Some most) few takes) request.1 request.3;
 }
-answered most old new left left_after gave gave_after more reply made many takes opened few grows replied (inr bad) = record {
+answered most old new left left_after more reply made fed replied (inr bad) = record {
   turn = schedule.Answers (Err bad.0) true;
   reply = reply;
   more = more;
-  first = answers_bad most old new left left_after more gave gave_after bad.0 many takes grows opened bad.1 bad.5;
-  asks = grows;
-  gives = given_is old.asked new.asked old.rest left left_after more gave gave_after most takes grows;
+  first = answers_bad most old new left left_after more bad.0 fed bad.1
+      ∙ ap (λ (s : State). with_first (schedule.Answers (Err bad.0) true) (ahead_from s new left_after)) (sym bad.5);
+  asks = fed.grows;
+  gives = gives_is most old new left left_after more fed;
   replied = replied;
   does = (bad.3, bad.4);
-  foreseen = foreseen_bad old new left left_after more bad.0 opened
-      (given_is old.asked new.asked old.rest left left_after more gave gave_after most takes grows) grows
-      (asked_within old.asked new.asked old.rest (Some left) (Some left_after) gave gave_after (Some most) few takes) bad.1 bad.5;
 }
 
 -- ---- an end
 
-ended : (most : ℕ) (old new : Talk) (left left_after : List ℕ) (gave gave_after : Option (List ℕ)) (more reply : List ℕ) (how : SessionEnd)
-    (made calls : List Answer) (bye : Answer)
-    → 4096 ≤ most → TakesPieces old.asked new.asked old.rest (Some left) (Some left_after) gave gave_after (Some most)
-    → old.state ≡ state.Open → new.asked ≡ old.asked ++ more → new.replied ≡ old.replied ++ reply → reply ≡ []
-    → new.state ≡ state.Ended how → calls ≡ [] → bye.call ≡ call.Bye → made ≡ calls ++ bye ∷ [] → IsShort (old.rest ++ more)
-    → next_piece (stand left_after (length new.asked) (old.rest ++ more)) ≡ []
-    → end_at (stand left_after (length new.asked) (old.rest ++ more)) ≡ how
-    → length old.asked ≤ session_limit → take (session_limit - length new.asked) left_after ≡ []
+never_rose : Rose 0 0 → ⊥
+never_rose rose = absurd (omega (arith, rose))
+
+no_read_fault : (said : Next) → HasReadFault said 0 0 → ⊥
+no_read_fault (next.Ended end.Fault) fault = never_rose fault
+no_read_fault (next.Ended end.Stopped) fault = never_rose fault
+no_read_fault (next.Ended how) fault = fault
+no_read_fault next.Answered fault = fault
+
+-- where it has nothing at hand that it could answer, and may take more, nothing is left
+abbrev IsDry : Talk → Talk → List ℕ → List ℕ → Type 0
+IsDry old new left_after more = IsShort (old.rest ++ more) → length new.asked < session_limit → left_after ≡ []
+
+is_dry : (said : Next) (old new : Talk) (left_after more : List ℕ) → new.asked ≡ old.asked ++ more
+    → Drains said old.asked new.asked old.rest 0 0 (Some left_after) → IsDry old new left_after more
+is_dry said old new left_after more grows drains short below = go (drains more grows short below)
+  where
+    go : (left_after ≡ []) ⊎ HasReadFault said 0 0 → left_after ≡ []
+    go (inl none) = none
+    go (inr fault) = absurd (no_read_fault said fault)
+
+-- an end that answers nothing is the turn ahead, and makes no call before its Bye
+abbrev IsEndAhead : Talk → Talk → List ℕ → List ℕ → SessionEnd → List Answer → Type 0
+IsEndAhead old new left left_after how calls =
+    (calls ≡ []) × (ahead_of old left ≡ with_first (schedule.Leaves how) (ahead_from (state.Ended how) new left_after))
+
+end_ahead : (most : ℕ) (old new : Talk) (left left_after more : List ℕ) (how : SessionEnd) (unsent : List ℕ) (calls : List Answer)
+    → Fed most old new left left_after more → IsDry old new left_after more
+    → ComesToEnd how (old.rest ++ more) new.rest new.asked unsent calls (faults 0 0 0 0) → IsEndAhead old new left left_after how calls
+end_ahead most old new left left_after more end.Ended unsent calls fed dry comes =
+    let t = hand_of old new left_after more in
+    let short : IsShort t.rest = subst IsShort (sym comes.0) nothing_is_short in (
+      comes.4,
+      ends_short most old new left left_after more end.Ended fed short (drained t (dry short comes.2))
+          (end_nothing t comes.2 comes.0),
+    )
+end_ahead most old new left left_after more end.Cut unsent calls fed dry comes =
+    let t = hand_of old new left_after more in (
+      comes.5,
+      ends_short most old new left left_after more end.Cut fed comes.0 (drained t (dry comes.0 comes.3))
+          (end_part t comes.3 comes.1),
+    )
+end_ahead most old new left left_after more end.Limit unsent calls fed dry comes =
+    let t = hand_of old new left_after more in
+    (comes.4, ends_short most old new left left_after more end.Limit fed comes.0 (at_limit t comes.2) (end_limit t comes.2))
+end_ahead most old new left left_after more end.Fault unsent calls fed dry (inl read) = absurd (never_rose read.5)
+end_ahead most old new left left_after more end.Fault unsent calls fed dry (inr (inl bad)) = absurd (never_rose bad.5)
+end_ahead most old new left left_after more end.Fault unsent calls fed dry (inr (inr request)) = absurd (never_rose request.3)
+end_ahead most old new left left_after more end.Bad unsent calls fed dry comes = absurd comes
+end_ahead most old new left left_after more end.Closed unsent calls fed dry comes = absurd comes
+end_ahead most old new left left_after more end.Stopped unsent calls fed dry comes = absurd comes
+
+-- an end has its Bye, and no call was refused; or it is Stopped
+abbrev HasBye : SessionEnd → List ℕ → List ℕ → List ℕ → List ℕ → List Answer → Option ControlCall → Type 0
+HasBye how hand rest asked unsent made refused =
+    (refused ≡ None) × ((calls : List Answer) × (bye : Answer) × ComesToEnd how hand rest asked unsent calls (faults 0 0 0 0)
+    × (bye.call ≡ call.Bye) × (made ≡ calls ++ bye ∷ []))
+
+by_end : (how : SessionEnd) (hand rest asked unsent : List ℕ) (made : List Answer) (refused : Option ControlCall)
+    → EndsBy how hand rest asked unsent made refused (faults 0 0 0 0) → Refuses (next.Ended how) None refused
+    → HasBye how hand rest asked unsent made refused ⊎ Stops hand rest asked unsent made refused (faults 0 0 0 0)
+by_end end.Stopped hand rest asked unsent made refused by same = inr by
+by_end end.Ended hand rest asked unsent made refused by same = inl (same, by)
+by_end end.Cut hand rest asked unsent made refused by same = inl (same, by)
+by_end end.Bad hand rest asked unsent made refused by same = inl (same, by)
+by_end end.Closed hand rest asked unsent made refused by same = inl (same, by)
+by_end end.Fault hand rest asked unsent made refused by same = inl (same, by)
+by_end end.Limit hand rest asked unsent made refused by same = inl (same, by)
+
+-- the Bye of an end
+leaves : (old new : Talk) (left left_after more : List ℕ) (how : SessionEnd) (made : List Answer) (bye : Answer)
+    → ahead_of old left ≡ with_first (schedule.Leaves how) (ahead_from (state.Ended how) new left_after) → new.state ≡ state.Ended how
+    → new.asked ≡ old.asked ++ more → left ≡ more ++ left_after → new.replied ≡ old.replied ++ [] → bye.call ≡ call.Bye → made ≡ bye ∷ []
     → Turned old new left left_after made
-ended most old new left left_after gave gave_after more reply how made calls bye many takes opened grows replied none stands no_calls is_bye made_is short stops ends few over = record {
+leaves old new left left_after more how made bye ahead stands asks gives replied is_bye made_is = record {
   turn = schedule.Leaves how;
-  reply = reply;
+  reply = [];
   more = more;
-  first = ends_short most old new left left_after more gave gave_after how many takes grows opened short stops ends stands;
-  asks = grows;
-  gives = given_is old.asked new.asked old.rest left left_after more gave gave_after most takes grows;
+  first = ahead ∙ ap (λ (s : State). with_first (schedule.Leaves how) (ahead_from s new left_after)) (sym stands);
+  asks = asks;
+  gives = gives;
   replied = replied;
-  does = (bye, is_bye, made_is ∙ ap (λ (l : List Answer). l ++ bye ∷ []) no_calls, none);
-  foreseen = foreseen_end old new left left_after more how opened
-      (given_is old.asked new.asked old.rest left left_after more gave gave_after most takes grows) grows
-      (asked_within old.asked new.asked old.rest (Some left) (Some left_after) gave gave_after (Some most) few takes) short over stands;
+  does = (bye, is_bye, made_is, refl);
 }
 
-never_rose : {A : Type 0} (before now : ℕ) → before ≡ 0 → now ≡ 0 → Rose before now → A
-never_rose before now none still rose = absurd (omega (arith, none, still, rose))
+-- the call of the turn that is ahead was refused
+abbrev IsHalted : Talk → List ℕ → List Answer → Option ControlCall → Type 0
+IsHalted old left made refused = (made ≡ []) × ((c : ControlCall) × (refused ≡ Some c) × Halts old left c)
 
-nothing_at_limit : (asked : ℕ) (left : List ℕ) → asked ≡ session_limit → take (session_limit - asked) left ≡ []
-nothing_at_limit asked left is =
-    let none : session_limit - asked ≡ 0 = omega (arith, is) in
-    ap (λ n. take n left) none
-
--- an end that answers nothing, where the connection never fails
-ends : (most : ℕ) (old new : Talk) (left left_after : List ℕ) (gave gave_after : Option (List ℕ)) (more reply unsent : List ℕ) (how : SessionEnd)
-    (made : List Answer) (counts : Faults)
-    → 4096 ≤ most → TakesPieces old.asked new.asked old.rest (Some left) (Some left_after) gave gave_after (Some most)
-    → old.state ≡ state.Open → new.asked ≡ old.asked ++ more → new.replied ≡ old.replied ++ reply → reply ≡ []
-    → new.state ≡ state.Ended how → counts ≡ faults 0 0 0 0 → how ≢ end.Stopped → Drains (next.Ended how) (Some left_after)
-    → length old.asked ≤ session_limit → EndsBy how (old.rest ++ more) new.rest new.asked unsent made counts → Turned old new left left_after made
-ends most old new left left_after gave gave_after more reply unsent end.Ended made counts many takes opened grows replied none stands quiet goes drains few by =
-    ended most old new left left_after gave gave_after more reply end.Ended made by.0 by.1 many takes opened grows replied none stands
-    by.2.4 by.3 by.4 (subst IsShort (sym by.2.0) nothing_is_short)
-    (drained (stand left_after (length new.asked) (old.rest ++ more)) drains)
-    (end_nothing (stand left_after (length new.asked) (old.rest ++ more)) by.2.2 by.2.0)
-    few (ap (take (session_limit - length new.asked)) drains ∙ take-nil (session_limit - length new.asked))
-ends most old new left left_after gave gave_after more reply unsent end.Cut made counts many takes opened grows replied none stands quiet goes drains few by =
-    ended most old new left left_after gave gave_after more reply end.Cut made by.0 by.1 many takes opened grows replied none stands
-    by.2.5 by.3 by.4 by.2.0
-    (drained (stand left_after (length new.asked) (old.rest ++ more)) drains)
-    (end_part (stand left_after (length new.asked) (old.rest ++ more)) by.2.3 by.2.1)
-    few (ap (take (session_limit - length new.asked)) drains ∙ take-nil (session_limit - length new.asked))
-ends most old new left left_after gave gave_after more reply unsent end.Limit made counts many takes opened grows replied none stands quiet goes drains few by =
-    ended most old new left left_after gave gave_after more reply end.Limit made by.0 by.1 many takes opened grows replied none stands
-    by.2.4 by.3 by.4 by.2.0
-    (at_limit (stand left_after (length new.asked) (old.rest ++ more)) by.2.2)
-    (end_limit (stand left_after (length new.asked) (old.rest ++ more)) by.2.2)
-    few (nothing_at_limit (length new.asked) left_after by.2.2)
-ends most old new left left_after gave gave_after more reply unsent end.Bad made counts many takes opened grows replied none stands quiet goes drains few by = absurd by.2
-ends most old new left left_after gave gave_after more reply unsent end.Closed made counts many takes opened grows replied none stands quiet goes drains few by = absurd by.2
-ends most old new left left_after gave gave_after more reply unsent end.Stopped made counts many takes opened grows replied none stands quiet goes drains few by = absurd (goes refl)
-ends most old new left left_after gave gave_after more reply unsent end.Fault made counts many takes opened grows replied none stands quiet goes drains few by =
-    absurd (no_fault by.2)
-  where
-    reads : counts.reads ≡ 0
-    reads = ap (λ (f : Faults). f.reads) quiet
-
-    reads_after : counts.reads_after ≡ 0
-    reads_after = ap (λ (f : Faults). f.reads_after) quiet
-
-    writes : counts.writes ≡ 0
-    writes = ap (λ (f : Faults). f.writes) quiet
-
-    writes_after : counts.writes_after ≡ 0
-    writes_after = ap (λ (f : Faults). f.writes_after) quiet
-
-    no_fault : ComesToEnd end.Fault (old.rest ++ more) new.rest new.asked unsent by.0 counts → ⊥
-    no_fault (inl read) = never_rose counts.reads counts.reads_after reads reads_after read.5
-    no_fault (inr (inl bad)) = never_rose counts.writes counts.writes_after writes writes_after bad.5
-    no_fault (inr (inr request)) = never_rose counts.writes counts.writes_after writes writes_after request.3
+halted : (most : ℕ) (old new : Talk) (left left_after more unsent : List ℕ) (made : List Answer) (refused : Option ControlCall)
+    → Fed most old new left left_after more → IsDry old new left_after more
+    → ((c : ControlCall) → Holds c made → ⊥)
+    → Stops (old.rest ++ more) new.rest new.asked unsent made refused (faults 0 0 0 0) → IsHalted old left made refused
+halted most old new left left_after more unsent made refused fed dry holds (inl (request, begins, (c, is, inl stops), none)) = (
+  stops.0,
+  (
+    c,
+    stops.1,
+    record {
+      turn = schedule.Answers (call_of_request request) request.last;
+      rest = ahead_from (state_behind request.last) new left_after;
+      first = answers_request most old new left left_after more request fed begins;
+      makes = ap (λ (r : Result ControlCall Rule). call_in (schedule.Answers r request.last)) is;
+    },
+  ),
+)
+halted most old new left left_after more unsent made refused fed dry holds (inl (request, begins, (c, is, inr stops), none)) = absurd (holds c stops.0)
+halted most old new left left_after more unsent made refused fed dry holds (inr (how, comes, is)) =
+    let ahead = end_ahead most old new left left_after more how unsent made fed dry comes in (
+      ahead.0,
+      (
+        call.Bye,
+        is,
+        record {
+          turn = schedule.Leaves how;
+          rest = ahead_from (state.Ended how) new left_after;
+          first = ahead.1;
+          makes = refl;
+        },
+      ),
+    )
 
 -- ---- by where it stood
 
--- the Bye behind a last reply
-leaves : (old new : Talk) (left left_after : List ℕ) (how : SessionEnd) (made : List Answer) (bye : Answer) → old.state ≡ state.Leaving how
-    → new ≡ record old { state = state.Ended how } → left_after ≡ left → bye.call ≡ call.Bye → made ≡ bye ∷ []
-    → Turned old new left left_after made
-leaves old new left left_after how made bye stands is same is_bye made_is = record {
-  turn = schedule.Leaves how;
-  reply = [];
-  more = [];
-  first = leaves_is old new left how stands is ∙ ap (λ (l : List ℕ). with_first (schedule.Leaves how) (ahead_of new l)) (sym same);
-  asks = ap (λ (t : Talk). t.asked) is ∙ sym (append-nil old.asked);
-  gives = sym same;
-  replied = ap (λ (t : Talk). t.replied) is ∙ sym (append-nil old.replied);
-  does = (bye, is_bye, made_is, refl);
-  foreseen = foreseen_leaving old new left left_after how stands (ap (λ (t : Talk). t.state) is);
-}
+-- what a session that was not refused did
+took_turn : (old new : Talk) (left left_after : List ℕ) (answers answers_after made : List Answer) (refused : Option ControlCall) → refused ≡ None
+    → answers_after ≡ answers ++ made → Turned old new left left_after made → TurnedOrHalted old new left left_after answers answers_after refused
+took_turn old new left left_after answers answers_after made refused none calls turned =
+    subst (TurnedOrHalted old new left left_after answers answers_after) (sym none) (made, calls, turned)
 
--- a session that answered has not ended
-behind_goes_on : (last : Bool) → is_over (state_behind last) ≡ false
-behind_goes_on true = refl
-behind_goes_on false = refl
+-- and one that was
+was_halted : (old new : Talk) (left left_after : List ℕ) (answers answers_after made : List Answer) (refused : Option ControlCall)
+    → answers_after ≡ answers ++ made → IsHalted old left made refused → TurnedOrHalted old new left left_after answers answers_after refused
+was_halted old new left left_after answers answers_after made refused calls (none, (c, is, halts)) =
+    subst (TurnedOrHalted old new left left_after answers answers_after) (sym is)
+    (calls ∙ ap (λ (calls : List Answer). answers ++ calls) none ∙ append-nil answers, halts)
 
-answered_goes_on : (stands : State) (hand rest reply : List ℕ) (made : List Answer) → Answers stands hand rest reply made
-    → false ≡ is_over stands
-answered_goes_on stands hand rest reply made (inl request) = sym (ap is_over request.3 ∙ behind_goes_on request.0.last)
-answered_goes_on stands hand rest reply made (inr bad) = sym (ap is_over bad.5)
+from_state : (most : ℕ) (s : State) (said : Next) (old new : Talk) (left left_after : List ℕ) (answers answers_after : List Answer)
+    (refused : Option ControlCall) → old.state ≡ s → Says most said old new left left_after answers answers_after refused
+    → ComesFrom s said (played old answers) (moment new answers_after refused None 0 0)
+    → TurnedOrHalted old new left left_after answers answers_after refused
+from_state most state.Open next.Answered old new left left_after answers answers_after refused stands says step =
+    let fed : Fed most old new left left_after step.more = record { many = says.many; opened = stands; takes = says.takes; grows = step.takes } in
+    took_turn old new left left_after answers answers_after step.made refused step.refuses step.calls
+    (answered most old new left left_after step.more step.reply step.made fed step.replies step.outcome.0)
+from_state most state.Open (next.Ended how) old new left left_after answers answers_after refused stands says step =
+    go (by_end how (old.rest ++ step.more) new.rest new.asked step.outcome.0 step.made refused step.outcome.3 step.refuses)
+  where
+    fed : Fed most old new left left_after step.more
+    fed = record { many = says.many; opened = stands; takes = says.takes; grows = step.takes }
 
--- what a call comes to, where the connection never fails and the run does not stop
-from_state : (most : ℕ) (s : State) (before after : Moment) (what : Next) (left left_after : List ℕ) (gave gave_after : Option (List ℕ))
-    → 4096 ≤ most → TakesPieces before.talk.asked after.talk.asked before.talk.rest (Some left) (Some left_after) gave gave_after (Some most)
-    → before.talk.state ≡ s → length before.talk.asked ≤ session_limit → is_over s ≡ false
-    → faults before.reads after.reads before.writes after.writes ≡ faults 0 0 0 0 → what ≢ next.Ended end.Stopped
-    → (s ≡ state.Open → Drains what (Some left_after)) → (s ≢ state.Open → left_after ≡ left) → ComesFrom s what before after
-    → TurnedWith what before.talk after.talk left left_after before.answers after.answers
-from_state most state.Open before after next.Answered left left_after gave gave_after many takes stands few goes quiet runs drains rests comes = (
-  comes.0.made,
-  comes.0.calls,
-  answered most before.talk after.talk left left_after gave gave_after comes.0.more comes.0.reply comes.0.made many takes stands few
-      comes.0.takes comes.0.replies comes.0.outcome.0,
-  answered_goes_on after.talk.state (before.talk.rest ++ comes.0.more) after.talk.rest comes.0.reply comes.0.made comes.0.outcome.0,
-)
-from_state most state.Open before after (next.Ended how) left left_after gave gave_after many takes stands few goes quiet runs drains rests comes = (
-  comes.0.made,
-  comes.0.calls,
-  ends most before.talk after.talk left left_after gave gave_after comes.0.more comes.0.reply comes.0.outcome.0 how comes.0.made
-      (faults before.reads after.reads before.writes after.writes) many takes stands comes.0.takes comes.0.replies comes.0.outcome.2
-      comes.0.outcome.1 quiet (λ e. runs (ap next.Ended e)) (drains refl) few comes.0.outcome.3,
-  ap is_over (sym comes.0.outcome.1),
-)
-from_state most (state.Leaving how) before after what left left_after gave gave_after many takes stands few goes quiet runs drains rests comes =
-    go comes.3
+    dry : IsDry old new left_after step.more
+    dry = is_dry (next.Ended how) old new left_after step.more step.takes (says.drains stands)
+
+    go : HasBye how (old.rest ++ step.more) new.rest new.asked step.outcome.0 step.made refused
+        ⊎ Stops (old.rest ++ step.more) new.rest new.asked step.outcome.0 step.made refused (faults 0 0 0 0)
+        → TurnedOrHalted old new left left_after answers answers_after refused
+    go (inl (none, (calls, bye, comes, is_bye, made_is))) =
+        let ahead = end_ahead most old new left left_after step.more how step.outcome.0 calls fed dry comes in
+        took_turn old new left left_after answers answers_after step.made refused none step.calls
+        (leaves old new left left_after step.more how step.made bye ahead.1 step.outcome.1 step.takes
+        (gives_is most old new left left_after step.more fed) (step.replies ∙ ap (λ (r : List ℕ). old.replied ++ r) step.outcome.2) is_bye
+        (made_is ∙ ap (λ (calls : List Answer). calls ++ bye ∷ []) ahead.0))
+    go (inr stops) =
+        was_halted old new left left_after answers answers_after step.made refused step.calls
+        (halted most old new left left_after step.more step.outcome.0 step.made refused fed dry
+        (λ c holds. says.none_holds c step.made step.calls holds) stops)
+from_state most (state.Leaving how) said old new left left_after answers answers_after refused stands says (came, is, new_is, by, puts) = go by
   where
     left_is : left_after ≡ left
-    left_is = rests (λ e. absurd (cc e))
+    left_is = says.rests (λ e. absurd (cc (sym stands ∙ e)))
 
-    go : Leaves how comes.0 before.answers after.answers before.halted after.halted
-        → TurnedWith what before.talk after.talk left left_after before.answers after.answers
-    go (inl bye) = (
-      bye.0 ∷ [],
-      bye.3,
-      leaves before.talk after.talk left left_after how (bye.0 ∷ []) bye.0 stands
-          (comes.2 ∙ ap (λ (h : SessionEnd). record before.talk { state = state.Ended h }) bye.1) left_is bye.2 refl,
-      ap says_ended comes.1 ∙ ap (λ (t : Talk). is_over t.state) (sym comes.2),
-    )
-    go (inr stopped) = absurd (runs (comes.1 ∙ ap next.Ended stopped.0))
-from_state most (state.Ended how) before after what left left_after gave gave_after many takes stands few goes quiet runs drains rests comes = absurd (cc goes)
-from_state most state.Lost before after what left left_after gave gave_after many takes stands few goes quiet runs drains rests comes = absurd comes
+    ahead : ahead_of old left ≡ with_first (schedule.Leaves how) (ahead_from (state.Ended how) new left_after)
+    ahead = ap (λ (s : State). ahead_from s old left) stands
+        ∙ ap (λ (t : Talk). with_first (schedule.Leaves how) (ahead_from (state.Ended how) t left)) (sym new_is)
+        ∙ ap (λ (l : List ℕ). with_first (schedule.Leaves how) (ahead_from (state.Ended how) new l)) (sym left_is)
 
-pub turned : (most : ℕ) (before after : Moment) (what : Next) (left left_after : List ℕ) (gave gave_after : Option (List ℕ))
-    → 4096 ≤ most → TakesPieces before.talk.asked after.talk.asked before.talk.rest (Some left) (Some left_after) gave gave_after (Some most)
-    → length before.talk.asked ≤ session_limit → is_over before.talk.state ≡ false
-    → faults before.reads after.reads before.writes after.writes ≡ faults 0 0 0 0 → what ≢ next.Ended end.Stopped
-    → (before.talk.state ≡ state.Open → Drains what (Some left_after)) → (before.talk.state ≢ state.Open → left_after ≡ left)
-    → ComesTo what before after → TurnedWith what before.talk after.talk left left_after before.answers after.answers
-turned most before after what left left_after gave gave_after many takes few goes quiet runs drains rests comes =
-    from_state most before.talk.state before after what left left_after gave gave_after many takes refl few goes quiet runs drains rests comes
+    go : Leaves how came answers answers_after None refused → TurnedOrHalted old new left left_after answers answers_after refused
+    go (inl (bye, same, is_bye, calls, none)) =
+        took_turn old new left left_after answers answers_after (bye ∷ []) refused none calls
+        (leaves old new left left_after [] how (bye ∷ []) bye ahead (ap (λ (t : Talk). t.state) new_is ∙ ap state.Ended same)
+        (ap (λ (t : Talk). t.asked) new_is ∙ sym (append-nil old.asked)) (sym left_is)
+        (ap (λ (t : Talk). t.replied) new_is ∙ sym (append-nil old.replied)) is_bye refl)
+    go (inr (stops, same, refuses)) =
+        was_halted old new left left_after answers answers_after [] refused (same ∙ sym (append-nil answers)) (
+          refl,
+          (
+            call.Bye,
+            refuses,
+            record {
+              turn = schedule.Leaves how;
+              rest = ahead_from (state.Ended how) new left_after;
+              first = ahead;
+              makes = refl;
+            },
+          ),
+        )
+from_state most (state.Ended how) said old new left left_after answers answers_after refused stands says comes =
+    absurd (cc (sym says.goes ∙ ap is_over stands))
+from_state most state.Lost said old new left left_after answers answers_after refused stands says comes = absurd comes
+
+pub turned_or_halted : (most : ℕ) (said : Next) (old new : Talk) (left left_after : List ℕ) (answers answers_after : List Answer)
+    (refused : Option ControlCall) → Says most said old new left left_after answers answers_after refused
+    → TurnedOrHalted old new left left_after answers answers_after refused
+turned_or_halted most said old new left left_after answers answers_after refused says =
+    from_state most old.state said old new left left_after answers answers_after refused refl says says.comes

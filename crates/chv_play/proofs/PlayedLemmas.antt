@@ -1,5 +1,5 @@
 -- A run from its start to its end.
-use Rattle.std.proofs.Common.{◌≡◌, ◌≤◌, ◌<◌, ℕ, zero, suc, ◌+◌, ◌-◌, Bool, true, false, max, List, [], ◌∷◌, ◌++◌, length, map, take, drop, get_or, cond, Option, None, Some, Result, Ok, Err, refl, sym, ap, subst, ◌∙◌, arith, add-zero, length-append}
+use Rattle.std.proofs.Common.{◌≡◌, ◌≤◌, ◌<◌, ℕ, zero, suc, ◌+◌, ◌-◌, Bool, true, false, List, [], ◌∷◌, ◌++◌, length, map, take, drop, get_or, cond, Ok, Err, refl, sym, ap, subst, ◌∙◌, arith}
 use Rattle.std.specs.List.{enumerate_from, range_with_len, flat_map}
 use Rattle.std.proofs.lemmas.List.{append-nil, map-append, take_more, drop_all, length-map}
 use Rattle.std.proofs.Math.Seq.{take-append_seam, take-length}
@@ -9,14 +9,12 @@ use Rattle.chv_defs.specs.declared.control.ControlEntry.{ControlEntry}
 use Rattle.chv_defs.specs.declared.bank.Full.{Full}
 use Rattle.chv_defs.specs.declared.scene.OnShelf.{OnShelf}
 use Rattle.chv_defs.specs.declared.scene.Asked.{Asked}
-use Rattle.chv_defs.specs.declared.trace.Trace.{Trace}
 use Rattle.chv_defs.specs.declared.trace.SessionTrace.{SessionTrace}
 use Rattle.chv_defs.specs.declared.session.SessionEnd.{SessionEnd}
 use Rattle.chv_defs.specs.Schedule.{Turn, Visit, Stage, first_stage, after_turns, all_turns, numbered, rounds_of, round_of, visit_of, visit_from, at_start, log_of, trace_of, trace_at, trace_of_streams, stream_of, schedule, replies_to}
 use Rattle.chv_defs.specs.Schedule.{Standing, Answers, visit_at, last_turns, with_turn, filled}
 use Rattle.chv_defs.specs.Schedule as schedule
 use Rattle.chv_defs.specs.StreamCut.{cut}
-use Rattle.chv_defs.specs.SessionBytes.{session_limit}
 use Rattle.chv_defs.specs.Routes.{call_of_request}
 use Rattle.chv_defs.specs.declared.request.Took.{Took}
 use Rattle.chv_defs.specs.declared.request.Took.TheVariants as took
@@ -28,14 +26,14 @@ use Rattle.chv_session.specs.Step.{is_over}
 use Rattle.chv_control.specs.Control.{Controlled}
 use Rattle.chv_play.specs.declared.seat.Seat.{Seat}
 use Rattle.chv_play.specs.Ahead.{Ahead, ahead_in, ahead_of, ahead_from, standing_of, unanswered}
-use Rattle.chv_play.specs.Outlook.{IsOutlook}
-use Rattle.chv_play.specs.Playing.{ahead_at, visit_ahead, behind_round, turns_left, ArePut, Attends, AllAttend, IsUnderWay}
-use Rattle.chv_play.specs.Round.{Stands, AreSeated, IsSeated, stage_at, whole}
-use Rattle.chv_play.specs.Played.{IsNewSeat, AreNewSeats, AreOver, log_at, logs_at, trace_with}
-use Rattle.chv_play.proofs.FilledLemmas.{stand}
+use Rattle.chv_play.specs.Playing.{ahead_at, visit_ahead, behind_round, turns_left, EachFrom, ForEach, IsPut, Attends}
+use Rattle.chv_play.specs.Order.{IsOrdered, IsOrderedIn}
+use Rattle.chv_play.specs.Round.{Stands, stage_at, whole}
+use Rattle.chv_play.specs.Played.{IsNewSeat, AreNewSeats, AreOver, AreInOrder, Gives, log_at, logs_at, trace_with}
 use Rattle.chv_play.proofs.SeatLemmas.{begins, behind_begins}
 use Rattle.chv_play.proofs.RoundLemmas.{rounds_later}
-use Rattle.chv_play.proofs.RoundLoopLemmas.{seated_at}
+use Rattle.chv_play.proofs.EachLemmas.{for_each_so, for_each_numbered, for_each_length, for_each_more}
+use Rattle.chv_play.proofs.OrderLemmas.{new_ordered}
 
 -- ---- the start
 
@@ -53,54 +51,26 @@ new_visits (stream ∷ streams) (seat ∷ seats) new =
     ap (λ (a : Ahead). record { turns = a.turns; taken = a.taken } ∷ map visit_ahead seats) (new_ahead stream seat new.0)
     ∙ ap (λ (vs : List Visit). visit_of stream ∷ vs) (new_visits streams seats new.1)
 
-new_put : (k : ℕ) (streams : List (List ℕ)) (seats : List Seat) → AreNewSeats streams seats → ArePut k [] seats
-new_put k [] [] new = tt
-new_put k [] (seat ∷ seats) new = absurd new
-new_put k (stream ∷ streams) [] new = absurd new
-new_put k (stream ∷ streams) (seat ∷ seats) new = (sym (ap (λ (t : Talk). t.replied) new.0.session), new_put (k + 1) streams seats new.1)
-
-new_attend : (streams : List (List ℕ)) (seats : List Seat) → AreNewSeats streams seats → AllAttend streams seats
-new_attend [] [] new = tt
-new_attend [] (seat ∷ seats) new = absurd new
-new_attend (stream ∷ streams) [] new = absurd new
-new_attend (stream ∷ streams) (seat ∷ seats) new = (
-  record {
-    split = sym new.0.left ∙ ap (λ (t : Talk). t.asked ++ seat.link.left) (sym new.0.session);
-    taken = ap (λ (a : Ahead). a.taken) (new_ahead stream seat new.0);
-    how = ap (λ (a : Ahead). a.how) (new_ahead stream seat new.0);
-  },
-  new_attend streams seats new.1,
-)
-
-pub new_seated : (streams : List (List ℕ)) (seats : List Seat) → AreNewSeats streams seats → AreSeated seats
-new_seated [] [] new = tt
-new_seated [] (seat ∷ seats) new = absurd new
-new_seated (stream ∷ streams) [] new = absurd new
-new_seated (stream ∷ streams) (seat ∷ seats) new = (new.0.seated, new_seated streams seats new.1)
-
-pub new_number : (streams : List (List ℕ)) (seats : List Seat) → AreNewSeats streams seats → length seats ≡ length streams
-new_number [] [] new = refl
-new_number [] (seat ∷ seats) new = absurd new
-new_number (stream ∷ streams) [] new = absurd new
-new_number (stream ∷ streams) (seat ∷ seats) new = ap suc (new_number streams seats new.1)
-
-pub new_more : (streams : List (List ℕ)) (seats : List Seat) (stream : List ℕ) (seat : Seat) → AreNewSeats streams seats → IsNewSeat stream seat
-    → AreNewSeats (streams ++ stream ∷ []) (seats ++ seat ∷ [])
-new_more [] [] stream seat new one = (one, tt)
-new_more [] (other ∷ seats) stream seat new one = absurd new
-new_more (other ∷ streams) [] stream seat new one = absurd new
-new_more (other ∷ streams) (another ∷ seats) stream seat new one = (new.0, new_more streams seats stream seat new.1 one)
+new_attends : (stream : List ℕ) (seat : Seat) → IsNewSeat stream seat → Attends stream seat
+new_attends stream seat new = record {
+  split = sym new.left ∙ ap (λ (t : Talk). t.asked ++ seat.link.left) (sym new.session);
+  taken = ap (λ (a : Ahead). a.taken) (new_ahead stream seat new);
+  how = ap (λ (a : Ahead). a.how) (new_ahead stream seat new);
+}
 
 pub new_stands : {D : Type 0} (shelf : List OnShelf) (streams : List (List ℕ)) (control : Controlled D) (seats : List Seat)
     → stage_at control [] ≡ first_stage → AreNewSeats streams seats → Stands shelf streams control 0 seats
 new_stands {D} shelf streams control seats fresh new = record {
   under_way = record {
     replies = [];
-    put = new_put 1 streams seats new;
+    put = for_each_numbered IsNewSeat (IsPut []) 1 streams seats (λ n stream seat is. sym (ap (λ (t : Talk). t.replied) is.session)) new;
     leads = ap (λ (s : Stage). after_turns shelf s (turns_left 0 seats)) fresh
         ∙ ap (after_turns shelf first_stage) (begins seats ∙ ap (λ (vs : List Visit). all_turns (numbered vs)) (new_visits streams seats new));
   };
-  attend = new_attend streams seats new;
+  attend = for_each_so IsNewSeat Attends streams seats new_attends new;
+  ordered = subst (λ (s : Stage). EachFrom (IsOrderedIn s.history) 1 seats) (sym fresh)
+      (for_each_numbered IsNewSeat (IsOrderedIn []) 1 streams seats
+      (λ n stream seat is. subst (λ (t : Talk). IsOrdered t []) (sym is.session) new_ordered) new);
 }
 
 -- ---- the end
@@ -147,8 +117,8 @@ log_is k stage stream seat attends put over =
     ∙ ap (λ (b : List ℕ). record { session = k; log = record { asked = seat.session.asked; replied = b; end = schedule.end_of (visit_of stream).turns } }) put
     ∙ ap (λ (h : SessionEnd). record { session = k; log = record { asked = seat.session.asked; replied = seat.session.replied; end = h } }) how
 
-logs_are : (k : ℕ) (stage : Stage) (streams : List (List ℕ)) (seats : List Seat) → AllAttend streams seats → ArePut k stage.replies seats
-    → AreOver seats → map (log_of stage) (enumerate_from k (map (λ (stream : List ℕ). (stream, visit_of stream)) streams)) ≡ logs_at k seats
+logs_are : (k : ℕ) (stage : Stage) (streams : List (List ℕ)) (seats : List Seat) → ForEach Attends streams seats
+    → EachFrom (IsPut stage.replies) k seats → AreOver seats → map (log_of stage) (enumerate_from k (map (λ (stream : List ℕ). (stream, visit_of stream)) streams)) ≡ logs_at k seats
 logs_are k stage [] [] attend put over = refl
 logs_are k stage [] (seat ∷ seats) attend put over = absurd attend
 logs_are k stage (stream ∷ streams) [] attend put over = absurd attend
@@ -157,11 +127,16 @@ logs_are k stage (stream ∷ streams) (seat ∷ seats) attend put over =
     (log_is k stage stream seat attend.0 put.0 over.0)
     ∙ ap (λ (ls : List SessionTrace). log_at k seat ∷ ls) (logs_are (k + 1) stage streams seats attend.1 put.1 over.1)
 
-pub run_gives : {D : Type 0} (shelf : List OnShelf) (sessions : List (List Asked)) (control : Controlled D) (seats : List Seat)
+logs_in_order : (k : ℕ) (history : List ControlEntry) (seats : List Seat) → EachFrom (IsOrderedIn history) k seats → AreOver seats
+    → AreInOrder history (logs_at k seats)
+logs_in_order k history [] ordered over = tt
+logs_in_order k history (seat ∷ seats) ordered over = (ordered.0.over over.0, logs_in_order (k + 1) history seats ordered.1 over.1)
+
+trace_is : {D : Type 0} (shelf : List OnShelf) (sessions : List (List Asked)) (control : Controlled D) (seats : List Seat)
     → AreOver seats → Stands shelf (map stream_of sessions) control 0 seats
     → schedule.schedule shelf sessions ≡ Ok (trace_with control.history (logs_at 1 seats))
 unfolding schedule.schedule
-run_gives {D} shelf sessions control seats over stands =
+trace_is {D} shelf sessions control seats over stands =
     let streams = map stream_of sessions in
     let stage = stage_at control stands.under_way.replies in
     let ends : Ok stage ≡ whole shelf streams =
@@ -169,25 +144,18 @@ run_gives {D} shelf sessions control seats over stands =
     sym (ap (trace_of streams) ends)
     ∙ ap (λ (ls : List SessionTrace). Ok (trace_with control.history ls)) (logs_are 1 stage streams seats stands.attend stands.under_way.put over)
 
+pub run_gives : {D : Type 0} (shelf : List OnShelf) (sessions : List (List Asked)) (control : Controlled D) (seats : List Seat)
+    → AreOver seats → Stands shelf (map stream_of sessions) control 0 seats
+    → Gives (schedule.schedule shelf sessions) control.history (Ok (logs_at 1 seats))
+run_gives {D} shelf sessions control seats over stands =
+    (trace_is shelf sessions control seats over stands, logs_in_order 1 control.history seats stands.ordered over)
+
 pub run_full : (shelf : List OnShelf) (sessions : List (List Asked)) (full : Full) → whole shelf (map stream_of sessions) ≡ Err full
     → schedule.schedule shelf sessions ≡ Err full
 unfolding schedule.schedule
 run_full shelf sessions full is = ap (trace_of (map stream_of sessions)) is
 
 -- ---- a new seat
-
-pub new_seat_is : (stream : List ℕ) (seat : Seat) → seat.session ≡ new_talk → seat.link.left ≡ stream → seat.outlook.is_leaving ≡ false
-    → seat.outlook.parser ≡ take session_limit stream → seat.is_over ≡ false → IsNewSeat stream seat
-new_seat_is stream seat session_is left_is leaving bytes over = record {
-  session = session_is;
-  left = left_is;
-  seated = record {
-    within = subst (λ (t : Talk). length t.asked ≤ session_limit) (sym session_is) (omega arith);
-    over = over ∙ ap (λ (t : Talk). is_over t.state) (sym session_is);
-    outlook = subst (λ (t : Talk). IsOutlook t.state seat.outlook.is_leaving seat.outlook.parser t seat.link.left) (sym session_is)
-        (leaving, bytes ∙ ap (λ (l : List ℕ). take session_limit l) (sym left_is));
-  };
-}
 
 pub one_more_seat : (sessions : List (List Asked)) (i : ℕ) (requests : List Asked) (seats seats_after : List Seat) (seat : Seat) → i < length sessions
     → requests ≡ get_or sessions i requests → seats_after ≡ seats ++ seat ∷ [] → IsNewSeat (stream_of requests) seat
@@ -198,7 +166,7 @@ one_more_seat sessions i requests seats seats_after seat within is grows new are
     subst (λ (ss : List Seat). AreNewSeats (map stream_of (take (i + 1) sessions)) ss) (sym grows)
     (subst (λ (rs : List (List Asked)). AreNewSeats (map stream_of rs) (seats ++ seat ∷ [])) (sym first)
     (subst (λ (bs : List (List ℕ)). AreNewSeats bs (seats ++ seat ∷ [])) (sym (map-append stream_of (take i sessions) (requests ∷ [])))
-    (new_more (map stream_of (take i sessions)) seats (stream_of requests) seat are new)))
+    (for_each_more IsNewSeat (map stream_of (take i sessions)) seats (stream_of requests) seat are new)))
 
 -- ---- whether all have ended
 
@@ -229,19 +197,17 @@ rounds_go k (suc i) (one ∷ seats) seat within is goes =
     let more = rounds_go (k + 1) i seats seat (omega (arith, within)) is goes in
     omega (arith, more)
 
-pub still_going : (i : ℕ) (seats : List Seat) (seat : Seat) → i < length seats → get_or seats i seat ≡ seat → seat.is_over ≡ false → AreSeated seats
+pub still_going : (i : ℕ) (seats : List Seat) (seat : Seat) → i < length seats → get_or seats i seat ≡ seat → seat.is_over ≡ false
     → 0 < rounds_of (numbered (map visit_ahead seats))
-still_going i seats seat within is goes seated =
-    rounds_go 1 i seats seat within is (sym (seated_at i seats seat within is seated).over ∙ goes)
+still_going i seats seat within is goes = rounds_go 1 i seats seat within is (sym seat.over ∙ goes)
 
-pub over_more : (i : ℕ) (seats : List Seat) (seat : Seat) → i < length seats → get_or seats i seat ≡ seat → seat.is_over ≡ true → AreSeated seats
+pub over_more : (i : ℕ) (seats : List Seat) (seat : Seat) → i < length seats → get_or seats i seat ≡ seat → seat.is_over ≡ true
     → AreOver (take i seats) → AreOver (take (i + 1) seats)
-over_more i [] seat within is over seated before = absurd (omega (arith, within))
-over_more zero (one ∷ seats) seat within is over seated before =
-    (sym seated.0.over ∙ ap (λ (s : Seat). s.is_over) is ∙ over, tt)
-over_more (suc i) (one ∷ seats) seat within is over seated before =
+over_more i [] seat within is over before = absurd (omega (arith, within))
+over_more zero (one ∷ seats) seat within is over before = (sym one.over ∙ ap (λ (s : Seat). s.is_over) is ∙ over, tt)
+over_more (suc i) (one ∷ seats) seat within is over before =
     let number : suc i + 1 ≡ suc (i + 1) = omega arith in
-    subst (λ n. AreOver (take n (one ∷ seats))) (sym number) (before.0, over_more i seats seat (omega (arith, within)) is over seated.1 before.1)
+    subst (λ n. AreOver (take n (one ∷ seats))) (sym number) (before.0, over_more i seats seat (omega (arith, within)) is over before.1)
 
 pub fewer_rounds : (before after : List Seat) → map visit_ahead after ≡ behind_round 0 before → 0 < rounds_of (numbered (map visit_ahead before))
     → rounds_of (numbered (map visit_ahead after)) < rounds_of (numbered (map visit_ahead before))
@@ -266,4 +232,4 @@ written_back n new old same count =
     ∙ ap (λ k. take k new) size ∙ take-length new
 
 pub number_of_seats : (sessions : List (List Asked)) (seats : List Seat) → AreNewSeats (map stream_of sessions) seats → length seats ≡ length sessions
-number_of_seats sessions seats new = new_number (map stream_of sessions) seats new ∙ length-map sessions stream_of
+number_of_seats sessions seats new = for_each_length IsNewSeat (map stream_of sessions) seats new ∙ length-map sessions stream_of

@@ -1,6 +1,6 @@
 -- Rounds: the first one, and the turns that are left behind it.
-use Rattle.std.proofs.Common.{◌≡◌, ◌≤◌, ℕ, zero, suc, ◌+◌, ◌-◌, max, List, [], ◌∷◌, ◌++◌, length, drop, map, flat_map, slice_get, Option, refl, sym, ap, ◌∙◌, arith, add-zero}
-use Rattle.std.specs.List.{range_with_len, enumerate_from, cons_option}
+use Rattle.std.proofs.Common.{◌≡◌, ◌≤◌, ℕ, zero, suc, ◌+◌, ◌-◌, List, [], ◌∷◌, ◌++◌, length, drop, map, flat_map, slice_get, refl, sym, ap, ◌∙◌, arith}
+use Rattle.std.specs.List.{range_with_len, cons_option}
 use Rattle.std.proofs.lemmas.List.{length-drop}
 use Rattle.chv_defs.specs.Schedule.{Turn, Visit, turn_of, turn_in, round_of, rounds_of, all_turns}
 use Rattle.chv_play.specs.Playing.{later}

@@ -1,55 +1,21 @@
 -- A round, seat by seat.
-use Rattle.std.proofs.Common.{◌≡◌, ◌≢◌, ◌≤◌, ◌<◌, ◌⊎◌, inl, inr, ℕ, zero, suc, ◌+◌, List, [], ◌∷◌, ◌++◌, length, map, get_or, Option, None, Some, is_some, Bool, true, false, Result, Ok, Err, refl, sym, ap, subst, ◌∙◌, arith, append_assoc, add-zero}
+use Rattle.std.proofs.Common.{◌≡◌, ◌<◌, inl, inr, ℕ, suc, ◌+◌, List, ◌∷◌, ◌++◌, length, map, get_or, Option, None, Some, is_some, true, false, Result, Ok, Err, sym, ap, subst, ◌∙◌, arith, append_assoc}
 use Rattle.std.proofs.Math.ListN.{set}
 use Rattle.std.proofs.lemmas.List.{set-get_or}
 use Rattle.chv_defs.specs.declared.bank.Full.{Full}
 use Rattle.chv_defs.specs.declared.scene.OnShelf.{OnShelf}
-use Rattle.chv_defs.specs.Schedule.{Turn, Visit, Stage, then_from, after_turn, after_turns, all_turns, numbered, replies_to}
+use Rattle.chv_defs.specs.Schedule.{Turn, Visit, Stage, then_from, after_turn, after_turns, all_turns, numbered}
 use Rattle.chv_control.specs.Control.{Controlled}
 use Rattle.chv_play.specs.declared.seat.Seat.{Seat}
-use Rattle.chv_play.specs.Ahead.{Ahead, with_first}
-use Rattle.chv_play.specs.Playing.{ahead_at, visit_ahead, behind_round, turns_left, ArePut, IsUnderWay, Attends, AllAttend}
+use Rattle.chv_play.specs.Ahead.{Ahead}
+use Rattle.chv_play.specs.Playing.{visit_ahead, round_left, behind_round, turns_left, EachFrom, IsPut, Attends}
+use Rattle.chv_play.specs.Order.{IsOrdered, IsOrderedIn}
 use Rattle.chv_play.specs.Turns.{with_reply_of}
-use Rattle.chv_play.specs.Round.{TakesTurn, FindsFull, IsServed, IsSeated, AreSeated, Stands, GoesOn, stage_at, whole}
-use Rattle.chv_play.proofs.SeatLemmas.{begins, round_ends, turn_taken, turn_skipped, behind_step, behind_skip, behind_over}
-
--- ---- replies
-
-put_others : (k n : ℕ) (seats : List Seat) (replies replies_after : List (ℕ × List ℕ)) → n < k
-    → ((other : ℕ) → other ≢ n → replies_to other replies_after ≡ replies_to other replies) → ArePut k replies seats → ArePut k replies_after seats
-put_others k n [] replies replies_after above same put = tt
-put_others k n (seat ∷ seats) replies replies_after above same put = (
-  same k (λ e. absurd (omega (arith, e, above))) ∙ put.0,
-  put_others (k + 1) n seats replies replies_after (omega (arith, above)) same put.1,
-)
-
-put_step : (k i n : ℕ) (seats : List Seat) (seat after : Seat) (replies replies_after : List (ℕ × List ℕ)) → n ≡ k + i → i < length seats
-    → get_or seats i seat ≡ seat → ((other : ℕ) → other ≢ n → replies_to other replies_after ≡ replies_to other replies)
-    → (replies_to n replies ≡ seat.session.replied → replies_to n replies_after ≡ after.session.replied)
-    → ArePut k replies seats → ArePut k replies_after (set seats i after)
-put_step k i n [] seat after replies replies_after number within is same own put = absurd (omega (arith, within))
-put_step k zero n (one ∷ seats) seat after replies replies_after number within is same own put =
-    let k_is : n ≡ k = omega (arith, number) in (
-      subst (λ (j : ℕ). replies_to j replies_after ≡ after.session.replied) k_is
-          (own (ap (λ (j : ℕ). replies_to j replies) k_is ∙ put.0 ∙ ap (λ (s : Seat). s.session.replied) is)),
-      put_others (k + 1) n seats replies replies_after (omega (arith, number)) same put.1,
-    )
-put_step k (suc i) n (one ∷ seats) seat after replies replies_after number within is same own put = (
-  same k (λ e. absurd (omega (arith, e, number))) ∙ put.0,
-  put_step (k + 1) i n seats seat after replies replies_after (omega (arith, number)) (omega (arith, within)) is same own put.1,
-)
+use Rattle.chv_play.specs.Round.{TakesTurn, FindsFull, IsServed, Stands, GoesOn, stage_at, whole}
+use Rattle.chv_play.proofs.EachLemmas.{each_set, for_each_set}
+use Rattle.chv_play.proofs.SeatLemmas.{begins, round_ends, turn_found, turn_taken, turn_skipped, behind_step, behind_skip, behind_over}
 
 -- ---- streams
-
-attend_step : (i : ℕ) (streams : List (List ℕ)) (seats : List Seat) (seat after : Seat) → i < length seats → get_or seats i seat ≡ seat
-    → ((stream : List ℕ) → Attends stream seat → Attends stream after) → AllAttend streams seats → AllAttend streams (set seats i after)
-attend_step i [] [] seat after within is keeps attend = absurd (omega (arith, within))
-attend_step i [] (one ∷ seats) seat after within is keeps attend = absurd attend
-attend_step i (stream ∷ streams) [] seat after within is keeps attend = absurd attend
-attend_step zero (stream ∷ streams) (one ∷ seats) seat after within is keeps attend =
-    (keeps stream (subst (λ (s : Seat). Attends stream s) is attend.0), attend.1)
-attend_step (suc i) (stream ∷ streams) (one ∷ seats) seat after within is keeps attend =
-    (attend.0, attend_step i streams seats seat after (omega (arith, within)) is keeps attend.1)
 
 attends_on : {D : Type 0} (shelf : List OnShelf) (caller : ℕ) (old new : Controlled D) (seat after : Seat) → TakesTurn shelf caller old new seat after
     → (stream : List ℕ) → Attends stream seat → Attends stream after
@@ -59,18 +25,6 @@ attends_on {D} shelf caller old new seat after takes stream attends = record {
   taken = sym (ap (λ (a : Ahead). a.taken) takes.first) ∙ attends.taken;
   how = sym (ap (λ (a : Ahead). a.how) takes.first) ∙ attends.how;
 }
-
--- ---- seats
-
-pub seated_at : (i : ℕ) (seats : List Seat) (seat : Seat) → i < length seats → get_or seats i seat ≡ seat → AreSeated seats → IsSeated seat
-seated_at i [] seat within is seated = absurd (omega (arith, within))
-seated_at zero (one ∷ seats) seat within is seated = subst IsSeated is seated.0
-seated_at (suc i) (one ∷ seats) seat within is seated = seated_at i seats seat (omega (arith, within)) is seated.1
-
-seated_set : (i : ℕ) (seats : List Seat) (after : Seat) → IsSeated after → AreSeated seats → AreSeated (set seats i after)
-seated_set i [] after is seated = seated
-seated_set zero (one ∷ seats) after is seated = (is, seated.1)
-seated_set (suc i) (one ∷ seats) after is seated = (seated.0, seated_set i seats after is seated.1)
 
 -- ---- a step of the loop
 
@@ -94,13 +48,15 @@ stands_on {D} shelf streams old new i seats seat after within is (inl takes) sta
     record {
       under_way = record {
         replies = with_reply_of takes.turn (i + 1) takes.reply replies;
-        put = put_step 1 i (i + 1) seats seat after replies (with_reply_of takes.turn (i + 1) takes.reply replies) (sym number) within is
-            (takes.puts_no_other replies) (takes.puts replies) stands.under_way.put;
+        put = each_set (IsPut replies) (IsPut (with_reply_of takes.turn (i + 1) takes.reply replies)) 1 i (i + 1) seats seat after (sym number) within is
+            (λ other one differs is_put. takes.puts_no_other replies other differs ∙ is_put) (takes.puts replies) stands.under_way.put;
         leads = sym (ap (after_turns shelf (stage_at old replies)) turns
             ∙ lead_on shelf (stage_at old replies) (Ok (stage_at new (with_reply_of takes.turn (i + 1) takes.reply replies))) (i + 1) takes.turn
             (turns_left (suc i) (set seats i after)) (takes.leads replies)) ∙ stands.under_way.leads;
       };
-      attend = attend_step i streams seats seat after within is (attends_on shelf (i + 1) old new seat after takes) stands.attend;
+      attend = for_each_set Attends i streams seats seat after within is (attends_on shelf (i + 1) old new seat after takes) stands.attend;
+      ordered = each_set (IsOrderedIn old.history) (IsOrderedIn new.history) 1 i (i + 1) seats seat after (sym number) within is
+          (λ other one differs ordered. subst (IsOrdered one.session) (sym (takes.calls_no_other other differs)) ordered) takes.calls stands.ordered;
     }
 stands_on {D} shelf streams old new i seats seat after within is (inr rests) stands =
     let seats_are : set seats i after ≡ seats = same_set i seats seat after is rests.2 in
@@ -113,6 +69,7 @@ stands_on {D} shelf streams old new i seats seat after within is (inr rests) sta
             ∙ stands.under_way.leads;
       };
       attend = stands.attend;
+      ordered = subst (λ (c : Controlled D). EachFrom (IsOrderedIn c.history) 1 seats) (sym rests.1) stands.ordered;
     })
 
 pub stands_full : {D : Type 0} (shelf : List OnShelf) (streams : List (List ℕ)) (old : Controlled D) (i : ℕ) (seats : List Seat) (seat : Seat) (full : Full)
@@ -121,11 +78,11 @@ pub stands_full : {D : Type 0} (shelf : List OnShelf) (streams : List (List ℕ)
 stands_full {D} shelf streams old i seats seat full within is finds stands =
     let replies = stands.under_way.replies in
     let number : 1 + i ≡ i + 1 = omega arith in
-    let turns : turns_left i seats ≡ (i + 1, finds.turn) ∷ turns_left (suc i) (set seats i finds.after) =
-    turn_taken i seats seat finds.after finds.turn within is finds.first
-    ∙ ap (λ n. (n, finds.turn) ∷ turns_left (suc i) (set seats i finds.after)) number in
+    let behind = round_left 1 (suc i) seats ++ all_turns (numbered (behind_round i seats)) in
+    let turns : turns_left i seats ≡ (i + 1, finds.turn) ∷ behind =
+    turn_found i seats seat finds.turn finds.rest within is finds.first ∙ ap (λ n. (n, finds.turn) ∷ behind) number in
     sym stands.under_way.leads ∙ ap (after_turns shelf (stage_at old replies)) turns
-    ∙ lead_on shelf (stage_at old replies) (Err full) (i + 1) finds.turn (turns_left (suc i) (set seats i finds.after)) (finds.leads replies)
+    ∙ lead_on shelf (stage_at old replies) (Err full) (i + 1) finds.turn behind (finds.leads replies)
 
 -- ---- a round begins and ends
 
@@ -139,6 +96,7 @@ stands_round {D} shelf streams control i seats over stands = record {
         (begins seats ∙ sym (round_ends seats) ∙ ap (λ n. turns_left n seats) (sym over)) ∙ stands.under_way.leads;
   };
   attend = stands.attend;
+  ordered = stands.ordered;
 }
 
 -- ---- as the loop has it
@@ -166,11 +124,6 @@ next_visits {D} shelf caller old new i seats seat after within is (inr rests) =
     let number : i + 1 ≡ suc i = omega arith in
     ap (λ n. behind_round n (set seats i after)) number ∙ ap (behind_round (suc i)) (same_set i seats seat after is rests.2)
     ∙ sym (behind_skip i seats seat within is rests.0)
-
-pub next_seated : {D : Type 0} (shelf : List OnShelf) (caller : ℕ) (old new : Controlled D) (i : ℕ) (seats : List Seat) (seat after : Seat)
-    → get_or seats i seat ≡ seat → IsServed shelf caller old new seat after None → AreSeated seats → AreSeated (set seats i after)
-next_seated {D} shelf caller old new i seats seat after is (inl takes) seated = seated_set i seats after takes.seated seated
-next_seated {D} shelf caller old new i seats seat after is (inr rests) seated = subst AreSeated (sym (same_set i seats seat after is rests.2)) seated
 
 pub full_goes_on : {D : Type 0} (shelf : List OnShelf) (streams : List (List ℕ)) (old new : Controlled D) (i : ℕ) (seats seats_after : List Seat) (seat after : Seat)
     (full : Option Full) → i < length seats → get_or seats i seat ≡ seat → is_some full ≡ true → IsServed shelf (i + 1) old new seat after full

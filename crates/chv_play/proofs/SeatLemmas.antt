@@ -1,5 +1,5 @@
 -- Turns that are left at seats: at the start of a round, at its end, and where a seat takes one.
-use Rattle.std.proofs.Common.{◌≡◌, ◌<◌, ℕ, zero, suc, ◌+◌, List, [], ◌∷◌, ◌++◌, length, map, slice_get, get_or, Option, Some, None, refl, sym, ap, ◌∙◌, arith, append_assoc, add-zero}
+use Rattle.std.proofs.Common.{◌≡◌, ◌<◌, ℕ, zero, suc, ◌+◌, List, [], ◌∷◌, ◌++◌, length, map, slice_get, get_or, refl, sym, ap, ◌∙◌, arith, add-zero}
 use Rattle.std.specs.List.{cons_option, enumerate_from}
 use Rattle.std.proofs.Math.ListN.{set}
 use Rattle.chv_defs.specs.Schedule.{Turn, Visit, turn_of, round_of, numbered, all_turns}
@@ -41,21 +41,24 @@ round_ends seats =
 
 -- ---- a seat's turn
 
--- what a seat has ahead of it, without its first turn
-pub IsFirst : Turn → Seat → Seat → Type 0
-IsFirst turn seat after = ahead_at seat ≡ with_first turn (ahead_at after)
-
-round_step : (k i : ℕ) (seats : List Seat) (seat after : Seat) (turn : Turn) → i < length seats → get_or seats i seat ≡ seat
-    → ahead_at seat ≡ with_first turn (ahead_at after) → round_left k i seats ≡ (k + i, turn) ∷ round_left k (suc i) (set seats i after)
-round_step k i [] seat after turn within is first = absurd (omega (arith, within))
-round_step k zero (one ∷ seats) seat after turn within is first =
+-- the turn that a seat has ahead of it is the next one of the round
+round_step : (k i : ℕ) (seats : List Seat) (seat : Seat) (turn : Turn) (rest : Ahead) → i < length seats → get_or seats i seat ≡ seat
+    → ahead_at seat ≡ with_first turn rest → round_left k i seats ≡ (k + i, turn) ∷ round_left k (suc i) seats
+round_step k i [] seat turn rest within is first = absurd (omega (arith, within))
+round_step k zero (one ∷ seats) seat turn rest within is first =
     ap (λ (s : Seat). cons_option (turn_of k (slice_get (ahead_at s).turns 0)) (round_left (k + 1) zero seats)) is
     ∙ ap (λ (a : Ahead). cons_option (turn_of k (slice_get a.turns 0)) (round_left (k + 1) zero seats)) first
     ∙ ap (λ (n : ℕ). (n, turn) ∷ round_left (k + 1) zero seats) (sym (add-zero k))
-round_step k (suc i) (one ∷ seats) seat after turn within is first =
+round_step k (suc i) (one ∷ seats) seat turn rest within is first =
     let same : (k + 1) + i ≡ k + suc i = omega arith in
-    round_step (k + 1) i seats seat after turn (omega (arith, within)) is first
-    ∙ ap (λ (n : ℕ). (n, turn) ∷ round_left (k + 1) (suc i) (set seats i after)) same
+    round_step (k + 1) i seats seat turn rest (omega (arith, within)) is first
+    ∙ ap (λ (n : ℕ). (n, turn) ∷ round_left (k + 1) (suc i) seats) same
+
+-- and it is no matter to those behind it what the seat is then
+round_set : (k i : ℕ) (seats : List Seat) (after : Seat) → round_left k (suc i) (set seats i after) ≡ round_left k (suc i) seats
+round_set k i [] after = refl
+round_set k zero (one ∷ seats) after = refl
+round_set k (suc i) (one ∷ seats) after = round_set (k + 1) i seats after
 
 pub behind_step : (i : ℕ) (seats : List Seat) (seat after : Seat) (turn : Turn) → i < length seats → get_or seats i seat ≡ seat
     → ahead_at seat ≡ with_first turn (ahead_at after) → behind_round i seats ≡ behind_round (suc i) (set seats i after)
@@ -66,11 +69,18 @@ behind_step zero (one ∷ seats) seat after turn within is first =
 behind_step (suc i) (one ∷ seats) seat after turn within is first =
     ap (λ (vs : List Visit). visit_ahead one ∷ vs) (behind_step i seats seat after turn (omega (arith, within)) is first)
 
+pub turn_found : (i : ℕ) (seats : List Seat) (seat : Seat) (turn : Turn) (rest : Ahead) → i < length seats → get_or seats i seat ≡ seat
+    → ahead_at seat ≡ with_first turn rest
+    → turns_left i seats ≡ (1 + i, turn) ∷ (round_left 1 (suc i) seats ++ all_turns (numbered (behind_round i seats)))
+turn_found i seats seat turn rest within is first =
+    ap (λ (ts : List (ℕ × Turn)). ts ++ all_turns (numbered (behind_round i seats))) (round_step 1 i seats seat turn rest within is first)
+
 pub turn_taken : (i : ℕ) (seats : List Seat) (seat after : Seat) (turn : Turn) → i < length seats → get_or seats i seat ≡ seat
     → ahead_at seat ≡ with_first turn (ahead_at after)
     → turns_left i seats ≡ (1 + i, turn) ∷ turns_left (suc i) (set seats i after)
 turn_taken i seats seat after turn within is first =
-    ap (λ (ts : List (ℕ × Turn)). ts ++ all_turns (numbered (behind_round i seats))) (round_step 1 i seats seat after turn within is first)
+    turn_found i seats seat turn (ahead_at after) within is first
+    ∙ ap (λ (ts : List (ℕ × Turn)). (1 + i, turn) ∷ (ts ++ all_turns (numbered (behind_round i seats)))) (sym (round_set 1 i seats after))
     ∙ ap (λ (vs : List Visit). (1 + i, turn) ∷ (round_left 1 (suc i) (set seats i after) ++ all_turns (numbered vs)))
     (behind_step i seats seat after turn within is first)
 

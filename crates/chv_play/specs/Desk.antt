@@ -1,22 +1,43 @@
--- A desk at which one answer lies ready.
-use Rattle.std.specs.Prelude.{List, [], ◌∷◌, Option, None, Some}
+-- What asking a call at the desk of the sessions that are played brings about.
+use Rattle.std.specs.Prelude.{◌≡◌, ◌⊎◌, ℕ, List, Option, None, Some}
+use Rattle.chv_defs.specs.declared.bank.Full.{Full}
+use Rattle.chv_defs.specs.declared.scene.OnShelf.{OnShelf}
 use Rattle.chv_defs.specs.declared.control.ControlCall.{ControlCall}
-use Rattle.chv_defs.specs.declared.control.ControlCall.TheVariants as call
-use Rattle.chv_defs.specs.declared.control.ControlReply.{ControlReply}
-use Rattle.chv_defs.specs.declared.control.ControlReply.TheVariants as reply
-use Rattle.chv_defs.specs.Desks.{Answer}
+use Rattle.chv_defs.specs.declared.control.ControlEntry.{ControlEntry}
+use Rattle.chv_defs.specs.ControlBook.{full_at}
+use Rattle.chv_control.specs.Control.{Controlled, entered, entry_of}
+use Rattle.chv_play.specs.declared.desk.PlayDesk.{PlayDesk}
+use Rattle.chv_play.specs.declared.desk.Refused.{Refused}
 
--- What lies ready, written as an answer: no call of a caller can change it, since the answers of a desk only grow.
-abbrev pub ready : Option ControlReply → Answer
-ready None = record { call = call.Ping; reply = reply.Done }
-ready (Some r) = record { call = call.Bye; reply = r }
+-- the call for which a book was full, where there was one
+abbrev pub call_of : Option Refused → Option ControlCall
+call_of None = None
+call_of (Some refused) = Some refused.call
 
--- the answer that was given, where the call was made to which it was given
-abbrev pub given : Option ControlReply → Option ControlCall → List Answer
-given (Some r) (Some c) = record { call = c; reply = r } ∷ []
-given (Some r) None = []
-given None asked = []
+-- the book that was full for it
+abbrev pub full_of : Option Refused → Option Full
+full_of None = None
+full_of (Some refused) = Some refused.full
 
--- what lies ready, and the answer that was given
-abbrev pub answers_at : Option ControlReply → Option ControlCall → List Answer
-answers_at laid asked = ready laid ∷ given laid asked
+-- the entry of a call that a caller makes now, answered by its rules
+abbrev pub entry_at : {D : Type 0} → List OnShelf → Controlled D → ℕ → ControlCall → ControlEntry
+entry_at shelf control caller call = entry_of shelf control.machine caller call
+
+-- The book that is full for that entry, where one is.
+abbrev pub full_for : {D : Type 0} → List OnShelf → Controlled D → ℕ → ControlCall → Option Full
+full_for shelf control caller call = full_at control.machine control.history (entry_at shelf control caller call)
+
+-- The book has room for the call, which is entered, and nothing else changes.
+pub record IsEntered {D : Type 0} (shelf : List OnShelf) (before : PlayDesk D) (call : ControlCall) (after : PlayDesk D) : Type 0 where
+  pub room : full_for shelf before.control before.caller call ≡ None
+  pub enters : after ≡ record before { control = entered before.control (entry_at shelf before.control before.caller call) }
+
+-- The book is full for the call, which is kept with the book, and nothing else changes.
+pub record IsRefused {D : Type 0} (shelf : List OnShelf) (before : PlayDesk D) (call : ControlCall) (after : PlayDesk D) : Type 0 where
+  pub full : Full
+  pub no_room : full_for shelf before.control before.caller call ≡ Some full
+  pub keeps : after ≡ record before { refused = Some (record { call = call; full = full }) }
+
+-- A call that is asked is entered; or the book is full for it; or nothing changes, where memory is wanting.
+abbrev pub IsAskedOf : {D : Type 0} → List OnShelf → PlayDesk D → ControlCall → PlayDesk D → Type 0
+IsAskedOf shelf before call after = IsEntered shelf before call after ⊎ IsRefused shelf before call after ⊎ (after ≡ before)

@@ -1,5 +1,5 @@
 -- Where a run of sessions stands: the turns that are left, and what has come of those that were taken.
-use Rattle.std.specs.Prelude.{◌≡◌, ℕ, zero, suc, ◌+◌, List, [], ◌∷◌, ◌++◌, length, drop, map, slice_get, Result}
+use Rattle.std.specs.Prelude.{◌≡◌, ℕ, zero, suc, ◌+◌, List, [], ◌∷◌, ◌++◌, drop, slice_get, Result}
 use Rattle.std.specs.List.{cons_option}
 use Rattle.chv_defs.specs.declared.bank.Full.{Full}
 use Rattle.chv_defs.specs.declared.machine.Machine.{Machine}
@@ -40,15 +40,19 @@ turns_left served seats = round_left 1 served seats ++ all_turns (numbered (behi
 
 -- ---- what came of the turns
 
--- the replies to each seat's session are those that it put; the first seat has this number
-abbrev pub ArePut : ℕ → List (ℕ × List ℕ) → List Seat → Type 0
-ArePut k replies [] = Unit {0}
-ArePut k replies (seat ∷ seats) = (replies_to k replies ≡ seat.session.replied) × ArePut (k + 1) replies seats
+-- This holds of each seat with its session's number; the first seat has this one.
+abbrev pub EachFrom : (ℕ → Seat → Type 0) → ℕ → List Seat → Type 0
+EachFrom P k [] = Unit {0}
+EachFrom P k (seat ∷ seats) = P k seat × EachFrom P (k + 1) seats
+
+-- of these replies, those to a seat's session are what it put
+abbrev pub IsPut : List (ℕ × List ℕ) → ℕ → Seat → Type 0
+IsPut replies k seat = replies_to k replies ≡ seat.session.replied
 
 -- The turns that are left lead from this control state and history where all turns lead.
 pub record IsUnderWay (shelf : List OnShelf) (whole : Result Stage Full) (machine : Machine) (history : List ControlEntry) (served : ℕ) (seats : List Seat) : Type 0 where
   pub replies : List (ℕ × List ℕ)
-  pub put : ArePut 1 replies seats
+  pub put : EachFrom (IsPut replies) 1 seats
   pub leads : after_turns shelf (record { machine = machine; history = history; replies = replies }) (turns_left served seats) ≡ whole
 
 -- ---- each session at its stream
@@ -59,8 +63,9 @@ pub record Attends (stream : List ℕ) (seat : Seat) : Type 0 where
   pub taken : (ahead_at seat).taken ≡ (visit_of stream).taken
   pub how : (ahead_at seat).how ≡ end_of (visit_of stream).turns
 
-abbrev pub AllAttend : List (List ℕ) → List Seat → Type 0
-AllAttend [] [] = Unit {0}
-AllAttend [] (seat ∷ seats) = ⊥
-AllAttend (stream ∷ streams) [] = ⊥
-AllAttend (stream ∷ streams) (seat ∷ seats) = Attends stream seat × AllAttend streams seats
+-- There is a seat for each stream, and this holds of the two.
+abbrev pub ForEach : (List ℕ → Seat → Type 0) → List (List ℕ) → List Seat → Type 0
+ForEach P [] [] = Unit {0}
+ForEach P [] (seat ∷ seats) = ⊥
+ForEach P (stream ∷ streams) [] = ⊥
+ForEach P (stream ∷ streams) (seat ∷ seats) = P stream seat × ForEach P streams seats

@@ -1,45 +1,19 @@
--- What a turn of a seat does to the control value.
-use Rattle.std.specs.Prelude.{◌≡◌, ◌≢◌, ◌≤◌, ◌⊎◌, ℕ, map, List, [], ◌∷◌, ◌++◌, length, Option, None, Some, Result, Ok, Err}
+-- What a turn of a seat does to the control value, and where a run stands.
+use Rattle.std.specs.Prelude.{◌≡◌, ◌≢◌, ◌⊎◌, ℕ, map, List, [], ◌++◌, Option, None, Some, Result, Ok, Err}
 use Rattle.chv_defs.specs.declared.bank.Full.{Full}
 use Rattle.chv_defs.specs.declared.scene.OnShelf.{OnShelf}
-use Rattle.chv_defs.specs.declared.control.ControlCall.{ControlCall}
-use Rattle.chv_defs.specs.declared.control.ControlReply.{ControlReply}
-use Rattle.chv_defs.specs.ApiStep.{reply_to}
-use Rattle.chv_defs.specs.ControlBook.{full_at}
+use Rattle.chv_defs.specs.LegalControl.{answers_by}
 use Rattle.chv_defs.specs.Schedule.{Turn, Stage, after_turn, after_turns, first_stage, all_turns, numbered, visit_of, replies_to}
-use Rattle.chv_defs.specs.SessionBytes.{session_limit}
-use Rattle.chv_control.specs.Control.{Controlled, entered, entry_of}
+use Rattle.chv_control.specs.Control.{Controlled}
 use Rattle.chv_play.specs.declared.seat.Seat.{Seat}
 use Rattle.chv_play.specs.Ahead.{Ahead, with_first}
-use Rattle.chv_play.specs.Outlook.{IsOutlook}
-use Rattle.chv_session.specs.Step.{is_over}
-use Rattle.chv_play.specs.Playing.{ahead_at, visit_ahead, behind_round, IsUnderWay, AllAttend}
+use Rattle.chv_play.specs.Order.{IsOrdered, IsOrderedIn}
+use Rattle.chv_play.specs.Playing.{ahead_at, EachFrom, IsUnderWay, Attends, ForEach}
 use Rattle.chv_play.specs.Turns.{with_reply_of}
-
--- What lies ready of a call that is made ahead: its answer by the rules, and it is entered; or, where the book is full,
--- some answer, and nothing is entered.
-abbrev pub IsMade : {D : Type 0} → List OnShelf → ℕ → ControlCall → Controlled D → Controlled D → Option ControlReply → Option Full → Type 0
-IsMade shelf caller c old new laid None =
-    (full_at old.machine old.history (entry_of shelf old.machine caller c) ≡ None) × (laid ≡ Some (reply_to shelf old.machine c))
-    × (new ≡ entered old (entry_of shelf old.machine caller c))
-IsMade shelf caller c old new laid (Some full) =
-    (full_at old.machine old.history (entry_of shelf old.machine caller c) ≡ Some full) × (new ≡ old)
-    × ((r : ControlReply) × (laid ≡ Some r))
-
--- What lies ready where a call is made ahead, and nothing where none is.
-abbrev pub LiesReady : {D : Type 0} → List OnShelf → ℕ → Option ControlCall → Controlled D → Controlled D → Option ControlReply → Option Full → Type 0
-LiesReady shelf caller None old new laid full = (new ≡ old) × (laid ≡ None) × (full ≡ None)
-LiesReady shelf caller (Some c) old new laid full = IsMade shelf caller c old new laid full
 
 -- the stage at a control value, with these replies
 abbrev pub stage_at : {D : Type 0} → Controlled D → List (ℕ × List ℕ) → Stage
 stage_at control replies = record { machine = control.machine; history = control.history; replies = replies }
-
--- what is seen ahead of a seat is what it has ahead, and its session took no more than a session takes
-pub record IsSeated (seat : Seat) : Type 0 where
-  pub within : length seat.session.asked ≤ session_limit
-  pub over : seat.is_over ≡ is_over seat.session.state
-  pub outlook : IsOutlook seat.session.state seat.outlook.is_leaving seat.outlook.parser seat.session seat.link.left
 
 -- A seat took the first of the turns ahead of it, of which the control value and the replies came that the schedule says.
 pub record TakesTurn {D : Type 0} (shelf : List OnShelf) (caller : ℕ) (old new : Controlled D) (seat after : Seat) : Type 0 where
@@ -53,15 +27,16 @@ pub record TakesTurn {D : Type 0} (shelf : List OnShelf) (caller : ℕ) (old new
       → replies_to caller (with_reply_of turn caller reply replies) ≡ after.session.replied
   pub puts_no_other : (replies : List (ℕ × List ℕ)) (other : ℕ) → other ≢ caller
       → replies_to other (with_reply_of turn caller reply replies) ≡ replies_to other replies
-  pub seated : IsSeated after
   pub leads : (replies : List (ℕ × List ℕ))
       → after_turn shelf (stage_at old replies) caller turn ≡ Ok (stage_at new (with_reply_of turn caller reply replies))
+  pub calls : IsOrdered seat.session (answers_by caller old.history) → IsOrdered after.session (answers_by caller new.history)
+  pub calls_no_other : (other : ℕ) → other ≢ caller → answers_by other new.history ≡ answers_by other old.history
 
 -- The first of the turns ahead of a seat finds the book full.
 pub record FindsFull {D : Type 0} (shelf : List OnShelf) (caller : ℕ) (control : Controlled D) (seat : Seat) (full : Full) : Type 0 where
   pub turn : Turn
-  pub after : Seat
-  pub first : ahead_at seat ≡ with_first turn (ahead_at after)
+  pub rest : Ahead
+  pub first : ahead_at seat ≡ with_first turn rest
   pub leads : (replies : List (ℕ × List ℕ)) → after_turn shelf (stage_at control replies) caller turn ≡ Err full
 
 -- the one or the other
@@ -75,10 +50,6 @@ IsServed shelf caller old new seat after None =
     TakesTurn shelf caller old new seat after ⊎ (((ahead_at seat).turns ≡ []) × (new ≡ old) × (after ≡ seat))
 IsServed shelf caller old new seat after (Some full) = FindsFull shelf caller old seat full
 
-abbrev pub AreSeated : List Seat → Type 0
-AreSeated [] = Unit {0}
-AreSeated (seat ∷ seats) = IsSeated seat × AreSeated seats
-
 -- where all turns of sessions at these streams lead
 abbrev pub whole : List OnShelf → List (List ℕ) → Result Stage Full
 whole shelf streams = after_turns shelf first_stage (all_turns (numbered (map visit_of streams)))
@@ -86,7 +57,8 @@ whole shelf streams = after_turns shelf first_stage (all_turns (numbered (map vi
 -- A run of sessions at these streams stands here: so many of the seats have had their turn of the round.
 pub record Stands {D : Type 0} (shelf : List OnShelf) (streams : List (List ℕ)) (control : Controlled D) (served : ℕ) (seats : List Seat) : Type 0 where
   pub under_way : IsUnderWay shelf (whole shelf streams) control.machine control.history served seats
-  pub attend : AllAttend streams seats
+  pub attend : ForEach Attends streams seats
+  pub ordered : EachFrom (IsOrderedIn control.history) 1 seats
 
 -- What playing on comes to: the run stands further on; or it finds the book full.
 abbrev pub GoesOn : {D : Type 0} → List OnShelf → List (List ℕ) → Controlled D → ℕ → List Seat → Option Full → Type 0

@@ -1,14 +1,11 @@
 -- What a session does in one turn.
-use Rattle.std.specs.Prelude.{◌≡◌, Bool, true, false, ℕ, List, [], ◌∷◌, ◌++◌, Option, None, Some, Ok, Err}
+use Rattle.std.specs.Prelude.{◌≡◌, ℕ, List, [], ◌∷◌, ◌++◌, Option, None, Some, Ok, Err}
 use Rattle.chv_defs.specs.declared.control.ControlCall.{ControlCall}
 use Rattle.chv_defs.specs.declared.control.ControlCall.TheVariants as call
 use Rattle.chv_defs.specs.Desks.{Answer}
 use Rattle.chv_defs.specs.Schedule.{Turn, Answers, Leaves}
-use Rattle.chv_session.specs.declared.next.Next.{Next}
-use Rattle.chv_session.specs.declared.next.Next.TheVariants as next
 use Rattle.chv_session.specs.Talk.{Talk}
-use Rattle.chv_play.specs.Ahead.{ahead_of, with_first, Does}
-use Rattle.chv_play.specs.Outlook.{IsForeseen}
+use Rattle.chv_play.specs.Ahead.{Ahead, ahead_of, with_first, Does}
 
 -- the call that a turn makes, where it makes one
 abbrev pub call_in : Turn → Option ControlCall
@@ -21,11 +18,6 @@ abbrev pub with_reply_of : Turn → ℕ → List ℕ → List (ℕ × List ℕ) 
 with_reply_of (Answers what last) session reply replies = replies ++ (session, reply) ∷ []
 with_reply_of (Leaves how) session reply replies = replies
 
--- whether a call of `next` says that the session has ended
-abbrev pub says_ended : Next → Bool
-says_ended next.Answered = false
-says_ended (next.Ended how) = true
-
 -- A session took the first of the turns ahead of it: it took bytes of its stream, made calls, and put its reply.
 pub record Turned (old new : Talk) (left left_after : List ℕ) (made : List Answer) : Type 0 where
   pub turn : Turn
@@ -36,4 +28,16 @@ pub record Turned (old new : Talk) (left left_after : List ℕ) (made : List Ans
   pub gives : left ≡ more ++ left_after
   pub replied : new.replied ≡ old.replied ++ reply
   pub does : Does turn made reply
-  pub foreseen : IsForeseen old.state (call_in turn) old new left left_after
+
+-- The first of the turns ahead of a session makes this call.
+pub record Halts (talk : Talk) (left : List ℕ) (refused : ControlCall) : Type 0 where
+  pub turn : Turn
+  pub rest : Ahead
+  pub first : ahead_of talk left ≡ with_first turn rest
+  pub makes : call_in turn ≡ Some refused
+
+-- What a session did whose caller's calls grew so: it took its turn; or the call of its turn was refused, and it made none.
+abbrev pub TurnedOrHalted : Talk → Talk → List ℕ → List ℕ → List Answer → List Answer → Option ControlCall → Type 0
+TurnedOrHalted old new left left_after answers answers_after None =
+    (made : List Answer) × (answers_after ≡ answers ++ made) × Turned old new left left_after made
+TurnedOrHalted old new left left_after answers answers_after (Some refused) = (answers_after ≡ answers) × Halts old left refused

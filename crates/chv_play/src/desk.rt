@@ -1,102 +1,105 @@
-// The desk of a session that is played.
-ghost use Rattle.std.specs.Prelude.{◌≡◌, true, false, None};
-ghost use Rattle.chv_defs.specs.declared.rule.Rule.{Rule};
-ghost use Rattle.chv_defs.specs.declared.control.ControlReply.TheVariants as reply;
-ghost use Rattle.chv_defs.specs.Desks.{can_have};
+// The desk of the sessions that are played.
+ghost use Rattle.std.specs.Prelude.{◌≡◌, ◌≢◌, ◌≤◌, false, None};
+ghost use Rattle.chv_defs.specs.Desks.{is_held};
+ghost use Rattle.chv_defs.specs.LegalControl.{answers_by};
+ghost use Rattle.chv_play.specs.Desk.{full_of};
 
-use chv_defs::{ControlCall, ControlReply, Desk, Stopped, copy_of};
+use chv_control::{Control, Inner};
+use chv_defs::{ControlCall, ControlReply, Desk, Full, Stopped, copy_of};
+use chv_io::Disk;
 use std::alloc::AllocError;
 
-/// The desk of a session in one turn: the answer to the call that the turn makes lies ready, where it makes one. Any other
-/// call is answered `Stopped`.
+/// A call for which the control book was full.
 #[derive(Drop)]
-pub(crate) struct ReadyDesk {
-    pub(crate) caller: u32,
-    pub(crate) laid: Option<ControlReply>,
-    pub(crate) asked: Option<ControlCall>,
-    pub(crate) is_stopped: bool,
+pub(crate) struct Refused {
+    pub(crate) call: ControlCall,
+    pub(crate) full: Full,
 }
 
-impl ReadyDesk {
-    /// A desk at which this answer lies ready.
-    pub(crate) fn new(caller: u32, laid: Option<ControlReply>) -> ReadyDesk
-        ensures { result ≡ record { caller = caller; laid = laid; asked = None; is_stopped = false } }
+/// The desk of the sessions that are played: the control value, the number of the session whose turn it is, and the call
+/// of this turn for which the book was full, where there was one.
+pub(crate) struct PlayDesk<D: Disk> {
+    pub(crate) control: Control<D>,
+    pub(crate) caller: u32,
+    pub(crate) refused: Option<Refused>,
+}
+
+impl<D: Disk> PlayDesk<D> {
+    /// A desk at this control value, before the first turn.
+    pub(crate) fn new(control: Control<D>) -> PlayDesk<D>
+        ensures { result.control ≡ control }
     {
-        ReadyDesk {
-            caller,
-            laid,
-            asked: None,
-            is_stopped: false,
+        PlayDesk {
+            control,
+            caller: 0,
+            refused: None,
         }
     }
-}
 
-/// Whether a call that changes the machine, or asks for nothing, can be done.
-fn can_be_done(call: &ControlCall) -> bool
-    ensures { result ≡ true → can_have call.now reply.Done ≡ true }
-{
-    matches!(
-        call,
-        ControlCall::Ping
-            | ControlCall::Bye
-            | ControlCall::Create(_)
-            | ControlCall::Boot
-            | ControlCall::Begin(_)
-            | ControlCall::Resume
-            | ControlCall::Resize { .. }
-            | ControlCall::ResizeZone { .. }
-            | ControlCall::Remove(_)
-            | ControlCall::AddDisk(_)
-            | ControlCall::Snapshot(_)
-    )
-}
+    /// It is the turn of the session with this number. No session's latest answer is Holding, so that none has a call to
+    /// settle.
+    pub(crate) fn turn_to(&mut self, caller: u32)
+        ensures turn { self.new ≡ record self.old { caller = caller; refused = None } }
+        ensures settled { is_held (answers_by caller self.new.control.history) ≡ false }
+    {
+        // What the control value tells of its history.
+        let _history = self.control.history();
+        self.caller = caller;
+        self.refused = None;
+    }
 
-/// Whether a rule can refuse a call.
-fn can_be_refused(call: &ControlCall) -> bool
-    ensures { result ≡ true → (rule : Rule) → can_have call.now (reply.Ruled rule) ≡ true }
-{
-    !matches!(
-        call,
-        ControlCall::Ping | ControlCall::Bye | ControlCall::Settle
-    )
-}
+    /// The book that was full for a call of this turn, where it was.
+    pub(crate) fn full(&self) -> Option<Full>
+        ensures { result ≡ full_of self.now.refused }
+    {
+        match &self.refused {
+            Some(refused) => Some(refused.full),
+            None => None,
+        }
+    }
 
-/// Whether an answer is of a kind that a call can have on a machine that is not booted.
-fn fits(call: &ControlCall, reply: &ControlReply) -> bool
-    ensures { result ≡ true → can_have call.now reply.now ≡ true }
-{
-    match reply {
-        ControlReply::Done => can_be_done(call),
-        ControlReply::Ruled(_) => can_be_refused(call),
-        ControlReply::Shown(_) => matches!(call, ControlCall::Info),
-        _ => false,
+    /// The control value.
+    pub(crate) fn into_control(self) -> Control<D>
+        ensures { result ≡ self.control }
+    {
+        let PlayDesk {
+            control,
+            caller: _caller,
+            refused: _refused,
+        } = self;
+        control
     }
 }
 
-impl Desk<()> for ReadyDesk {
-    ghost use Rattle.chv_play.specs.Desk.{answers_at};
+impl<D: Disk> Desk<()> for PlayDesk<D> {
+    ghost use Rattle.chv_control.specs.Shelf.{shelf_of, sectors_of};
+    ghost use Rattle.chv_play.specs.Desk.{IsAskedOf, call_of};
 
     ghost caller = { λ d. d.caller };
 
-    ghost answers = { λ d. answers_at d.laid d.asked };
+    ghost answers = { λ d. answers_by d.caller d.control.history };
 
-    ghost stopped = { λ d. d.is_stopped };
+    ghost refused = { λ d. call_of d.refused };
+
+    ghost asks = { λ before call after. IsAskedOf (shelf_of (sectors_of D.sector_count) before.control.disks) before call after };
 
     fn ask(
         &mut self,
         _rt: (),
         call: &ControlCall,
     ) -> Result<Result<ControlReply, Stopped>, AllocError> {
-        match &self.laid {
-            Some(reply) if self.asked.is_none() && fits(call, reply) => {
-                let answer = copy_of(reply)?;
-                self.asked = Some(copy_of(call)?);
-                Ok(Ok(answer))
-            }
-            _ => {
-                self.is_stopped = true;
+        // No caller's latest answer is Holding, as the history tells, so that no Settle comes.
+        let _history = self.control.history();
+        match self.control.apply(self.caller, call)? {
+            Ok(reply) => Ok(Ok(reply)),
+            Err(Inner::Full(full)) => {
+                self.refused = Some(Refused {
+                    call: copy_of(call)?,
+                    full,
+                });
                 Ok(Err(Stopped))
             }
+            Err(_) => unreachable!(),
         }
     }
 }

@@ -3,14 +3,9 @@
 
 mod asked;
 mod desk;
-mod outlook;
 mod player;
 mod round;
 mod seat;
 mod stream;
-mod turn;
 
 pub use player::{Played, play};
-
-#[cfg(test)]
-mod tests;

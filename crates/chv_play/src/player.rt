@@ -1,13 +1,14 @@
 // Plays the sessions of a scenario.
-ghost use Rattle.std.specs.Prelude.{◌≡◌, ◌≤◌, [], length, None, Some, IfOk};
+ghost use Rattle.std.specs.Prelude.{◌≡◌, ◌≤◌, [], length, map, None, Some, IfOk};
 ghost use Rattle.chv_session.specs.Talk.{end_of};
 ghost use Rattle.chv_defs.specs.Machine.{empty_machine};
-ghost use Rattle.chv_defs.specs.Schedule.{schedule};
+ghost use Rattle.chv_defs.specs.Schedule.{schedule, stream_of};
 ghost use Rattle.chv_control.specs.Shelf.{shelf_of, sectors_of};
-ghost use Rattle.chv_play.specs.Played.{logs_at, trace_with, Gives, Comes};
+ghost use Rattle.chv_play.specs.Played.{AreNewSeats, logs_at, trace_with, Gives, Comes};
 
+use crate::desk::PlayDesk;
 use crate::round::rounds;
-use crate::seat::{Seat, seats_of};
+use crate::seat::Seat;
 use chv_control::{Control, Start};
 use chv_defs::{Asked, ControlEntry, Full, Row, SessionLog, SessionTrace, StopCause, Trace};
 use chv_io::Disk;
@@ -22,6 +23,17 @@ pub struct Played<D> {
     pub cause: Option<StopCause>,
     /// The disks that stand by, and the number of sessions.
     pub start: Start<D>,
+}
+
+/// A seat for each session, by its requests.
+fn seats_of(alloc: Global, sessions: &[Row<Asked>]) -> Result<Vec<Seat>, AllocError>
+    ensures { IfOk result (λ seats. AreNewSeats (map stream_of sessions.now) seats.items) }
+{
+    let mut seats = Vec::new(alloc);
+    for requests in sessions {
+        seats.push(Seat::new(alloc, requests.as_slice())?)?;
+    }
+    Ok(seats)
 }
 
 /// The log of a seat's session.
@@ -47,22 +59,22 @@ fn logs_of(alloc: Global, seats: Vec<Seat>) -> Result<Row<SessionTrace>, AllocEr
     Ok(logs)
 }
 
-/// Plays sessions on a control value to which nothing happened yet: what they leave, or the book that was full.
+/// Plays sessions at a desk where nothing happened yet: what they leave, or the book that was full.
 fn run<D: Disk>(
     alloc: Global,
-    control: &mut Control<D>,
+    desk: &mut PlayDesk<D>,
     sessions: &[Row<Asked>],
 ) -> Result<Result<Row<SessionTrace>, Full>, AllocError>
-    requires machine { control.old.machine ≡ empty_machine }
-    requires history { control.old.history ≡ [] }
+    requires machine { desk.old.control.machine ≡ empty_machine }
+    requires history { desk.old.control.history ≡ [] }
     requires few { length sessions.now ≤ 16 }
-    ensures gives { IfOk result (λ logs. Gives (schedule (shelf_of (sectors_of D.sector_count) control.old.disks) sessions.now)
-        control.new.history logs) }
-    ensures disks { control.new.disks ≡ control.old.disks }
-    ensures sessions { control.new.sessions ≡ control.old.sessions }
+    ensures gives { IfOk result (λ logs. Gives
+        (schedule (shelf_of (sectors_of D.sector_count) desk.old.control.disks) sessions.now) desk.new.control.history logs) }
+    ensures disks { desk.new.control.disks ≡ desk.old.control.disks }
+    ensures sessions { desk.new.control.sessions ≡ desk.old.control.sessions }
 {
     let mut seats = seats_of(alloc, sessions)?;
-    match rounds(control, seats.as_mut_slice())? {
+    match rounds(desk, seats.as_mut_slice())? {
         Some(full) => Ok(Err(full)),
         None => Ok(Ok(logs_of(alloc, seats)?)),
     }
@@ -102,9 +114,9 @@ fn play_on<D: Disk>(alloc: Global, control: Control<D>, sessions: &[Row<Asked>])
     ensures disks { result.start.disks.items ≡ control.disks }
     ensures sessions { result.start.sessions ≡ control.sessions }
 {
-    let mut control = control;
-    let outcome = run(alloc, &mut control, sessions);
-    let (history, start) = control.into_parts();
+    let mut desk = PlayDesk::new(control);
+    let outcome = run(alloc, &mut desk, sessions);
+    let (history, start) = desk.into_control().into_parts();
     match outcome {
         Ok(Ok(logs)) => Played {
             trace: Some(trace_with(alloc, history, logs)),

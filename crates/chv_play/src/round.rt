@@ -4,32 +4,30 @@ ghost use Rattle.chv_defs.specs.Schedule.{numbered, rounds_of};
 ghost use Rattle.chv_play.specs.Played.{AreOver};
 ghost use Rattle.chv_control.specs.Shelf.{shelf_of, sectors_of};
 ghost use Rattle.chv_play.specs.Playing.{visit_ahead, behind_round};
-ghost use Rattle.chv_play.specs.Round.{AreSeated, Stands, GoesOn};
+ghost use Rattle.chv_play.specs.Round.{Stands, GoesOn};
 
+use crate::desk::PlayDesk;
 use crate::seat::Seat;
-use crate::turn::serve;
-use chv_control::Control;
 use chv_defs::Full;
 use chv_io::Disk;
 use std::alloc::AllocError;
 
 /// One turn of each seat whose session has not ended, in the order of the seats; the first is caller 1.
 pub(crate) fn round<D: Disk>(
-    control: &mut Control<D>,
+    desk: &mut PlayDesk<D>,
     seats: &mut [Seat],
 ) -> Result<Option<Full>, AllocError>
-    requires few { length seats.old ≤ 16 }
-    requires seated { AreSeated seats.old }
-    ensures goes_on { IfOk result (λ full. (streams : List (List ℕ)) → Stands (shelf_of (sectors_of D.sector_count) control.old.disks) streams control.old 0 seats.old
-        → GoesOn (shelf_of (sectors_of D.sector_count) control.old.disks) streams control.new 0 seats.new full) }
+    requires { length seats.old ≤ 16 }
+    ensures goes_on { IfOk result (λ full. (streams : List (List ℕ))
+        → Stands (shelf_of (sectors_of D.sector_count) desk.old.control.disks) streams desk.old.control 0 seats.old
+        → GoesOn (shelf_of (sectors_of D.sector_count) desk.old.control.disks) streams desk.new.control 0 seats.new full) }
     ensures visits { IfOk result (λ full. full ≡ None → map visit_ahead seats.new ≡ behind_round 0 seats.old) }
-    ensures seated { IfOk result (λ full. full ≡ None → AreSeated seats.new) }
     ensures number { length seats.new ≡ length seats.old }
-    ensures disks { control.new.disks ≡ control.old.disks }
-    ensures sessions { control.new.sessions ≡ control.old.sessions }
+    ensures disks { desk.new.control.disks ≡ desk.old.control.disks }
+    ensures sessions { desk.new.control.sessions ≡ desk.old.control.sessions }
 {
     for i in 0..seats.len() {
-        let full = serve(control, i as u32 + 1, &mut seats[i])?;
+        let full = seats[i].serve(desk, i as u32 + 1)?;
         if full.is_some() {
             return Ok(full);
         }
@@ -39,7 +37,6 @@ pub(crate) fn round<D: Disk>(
 
 /// Whether the session of each seat has ended.
 fn are_over(seats: &[Seat]) -> bool
-    requires { AreSeated seats.now }
     ensures over { result ≡ true → AreOver seats.now }
     ensures going { result ≡ false → 0 < rounds_of (numbered (map visit_ahead seats.now)) }
 {
@@ -53,20 +50,20 @@ fn are_over(seats: &[Seat]) -> bool
 
 /// Rounds until each session has ended, or the book is full.
 pub(crate) fn rounds<D: Disk>(
-    control: &mut Control<D>,
+    desk: &mut PlayDesk<D>,
     seats: &mut [Seat],
 ) -> Result<Option<Full>, AllocError>
-    requires few { length seats.old ≤ 16 }
-    requires seated { AreSeated seats.old }
-    ensures goes_on { IfOk result (λ full. (streams : List (List ℕ)) → Stands (shelf_of (sectors_of D.sector_count) control.old.disks) streams control.old 0 seats.old
-        → GoesOn (shelf_of (sectors_of D.sector_count) control.old.disks) streams control.new 0 seats.new full) }
+    requires { length seats.old ≤ 16 }
+    ensures goes_on { IfOk result (λ full. (streams : List (List ℕ))
+        → Stands (shelf_of (sectors_of D.sector_count) desk.old.control.disks) streams desk.old.control 0 seats.old
+        → GoesOn (shelf_of (sectors_of D.sector_count) desk.old.control.disks) streams desk.new.control 0 seats.new full) }
     ensures over { IfOk result (λ full. full ≡ None → AreOver seats.new) }
     ensures number { length seats.new ≡ length seats.old }
-    ensures disks { control.new.disks ≡ control.old.disks }
-    ensures sessions { control.new.sessions ≡ control.old.sessions }
+    ensures disks { desk.new.control.disks ≡ desk.old.control.disks }
+    ensures sessions { desk.new.control.sessions ≡ desk.old.control.sessions }
 {
     while !are_over(seats) {
-        let full = round(control, seats)?;
+        let full = round(desk, seats)?;
         if full.is_some() {
             return Ok(full);
         }

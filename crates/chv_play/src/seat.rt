@@ -1,47 +1,81 @@
-// A session that is played, at its stream.
-ghost use Rattle.std.specs.Prelude.{◌≡◌, map, IfOk};
-ghost use Rattle.chv_defs.specs.Schedule.{stream_of};
-ghost use Rattle.chv_play.specs.Played.{IsNewSeat, AreNewSeats};
+// A session that is played, at its stream, and its turns.
+ghost use Rattle.std.specs.Prelude.{◌≡◌};
+ghost use Rattle.chv_session.specs.Step as step;
 
 use crate::asked::stream_bytes;
-use crate::outlook::Outlook;
+use crate::desk::PlayDesk;
 use crate::stream::StreamLink;
-use chv_defs::{Asked, Row};
-use chv_session::Session;
+use chv_defs::{Asked, Full};
+use chv_io::Disk;
+use chv_session::{Next, Session};
 use std::alloc::{AllocError, Global};
 
-/// A session that is played, at its stream, and what is seen ahead of it.
+/// A session that is played, at its stream.
 #[derive(Drop)]
 pub(crate) struct Seat {
     pub(crate) session: Session,
     pub(crate) link: StreamLink,
-    pub(crate) outlook: Outlook,
     /// Whether the session has ended.
     pub(crate) is_over: bool,
+    ghost over: { is_over ≡ step.is_over session.state },
 }
 
-/// A seat for a session with these requests.
-fn new_seat(alloc: Global, requests: &[Asked]) -> Result<Seat, AllocError>
-    ensures { IfOk result (λ seat. IsNewSeat (stream_of requests.now) seat) }
-{
-    let bytes = stream_bytes(alloc, requests)?;
-    let outlook = Outlook::new(alloc, bytes.as_slice())?;
-    let session = Session::new(alloc)?;
-    Ok(Seat {
-        session,
-        link: StreamLink::new(bytes),
-        outlook,
-        is_over: false,
-    })
-}
+impl Seat {
+    ghost use Rattle.std.specs.Prelude.{◌≡◌, false, IfOk};
+    ghost use Rattle.chv_defs.specs.Machine.{IsSession};
+    ghost use Rattle.chv_defs.specs.Schedule.{stream_of};
+    ghost use Rattle.chv_control.specs.Shelf.{shelf_of, sectors_of};
+    ghost use Rattle.chv_play.specs.Played.{IsNewSeat};
+    ghost use Rattle.chv_play.specs.Round.{TurnsOut, IsServed};
 
-/// A seat for each session, by its requests.
-pub(crate) fn seats_of(alloc: Global, sessions: &[Row<Asked>]) -> Result<Vec<Seat>, AllocError>
-    ensures { IfOk result (λ seats. AreNewSeats (map stream_of sessions.now) seats.items) }
-{
-    let mut seats = Vec::new(alloc);
-    for requests in sessions {
-        seats.push(new_seat(alloc, requests.as_slice())?)?;
+    /// A seat for a session with these requests.
+    pub(crate) fn new(alloc: Global, requests: &[Asked]) -> Result<Seat, AllocError>
+        ensures { IfOk result (λ seat. IsNewSeat (stream_of requests.now) seat) }
+    {
+        let bytes = stream_bytes(alloc, requests)?;
+        Ok(Seat {
+            session: Session::new(alloc)?,
+            link: StreamLink::new(bytes),
+            is_over: false,
+        })
     }
-    Ok(seats)
+
+    /// One turn: the session takes the first turn that it has ahead of it; or a book is full for its call, which is
+    /// answered.
+    fn take_turn<D: Disk>(
+        &mut self,
+        desk: &mut PlayDesk<D>,
+        caller: u32,
+    ) -> Result<Option<Full>, AllocError>
+        requires session { IsSession caller }
+        requires open { self.old.is_over ≡ false }
+        ensures turn { IfOk result (λ full. TurnsOut (shelf_of (sectors_of D.sector_count) desk.old.control.disks) caller
+            desk.old.control desk.new.control self.old self.new full) }
+        ensures disks { desk.new.control.disks ≡ desk.old.control.disks }
+        ensures sessions { desk.new.control.sessions ≡ desk.old.control.sessions }
+    {
+        desk.turn_to(caller);
+        let said = self.session.next((), &mut self.link, desk);
+        self.is_over = !matches!(said, Ok(Next::Answered));
+        said?;
+        Ok(desk.full())
+    }
+
+    /// A seat's part in a round: one turn, where its session has not ended.
+    pub(crate) fn serve<D: Disk>(
+        &mut self,
+        desk: &mut PlayDesk<D>,
+        caller: u32,
+    ) -> Result<Option<Full>, AllocError>
+        requires { IsSession caller }
+        ensures served { IfOk result (λ full. IsServed (shelf_of (sectors_of D.sector_count) desk.old.control.disks) caller
+            desk.old.control desk.new.control self.old self.new full) }
+        ensures disks { desk.new.control.disks ≡ desk.old.control.disks }
+        ensures sessions { desk.new.control.sessions ≡ desk.old.control.sessions }
+    {
+        if self.is_over {
+            return Ok(None);
+        }
+        self.take_turn(desk, caller)
+    }
 }

@@ -30,6 +30,8 @@ mod num;
 #[cfg(test)]
 mod pages;
 #[cfg(test)]
+mod play;
+#[cfg(test)]
 mod scene;
 #[cfg(test)]
 mod session;

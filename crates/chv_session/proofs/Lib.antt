@@ -6,4 +6,5 @@ pub mod AskedLemmas
 mod StepLemmas
 mod ResultLemmas
 mod ReadyLemmas
-mod LawLemmas
+pub mod LawLemmas
+mod DrainLemmas

@@ -38,7 +38,7 @@ abbrev pub then_after : Bool → Then
 then_after true = then_is.Leave end.Closed
 then_after false = then_is.GoOn
 
--- A request is answered, or the run stopped in it, as the desk tells before and after.
+-- A request is answered, and no call was answered Stopped; or the run stopped in it.
 abbrev pub Serves : Request → Option (List ℕ) → Then → List Answer → Option ControlCall → Option ControlCall → Type 0
 Serves request reply after made refused refused_after =
     ((bytes : List ℕ) × (reply ≡ Some bytes) × (after ≡ then_after request.last) × Answered request made bytes × (refused_after ≡ refused))
@@ -81,7 +81,7 @@ abbrev pub is_bye : ControlCall → Bool
 is_bye call.Bye = true
 is_bye _ = false
 
--- The Bye of an end is answered; or the run stopped there, and the end is Stopped, as the desk tells before and after.
+-- The Bye of an end is answered; or it was answered Stopped, and the end is Stopped.
 abbrev pub Leaves : SessionEnd → SessionEnd → List Answer → List Answer → Option ControlCall → Option ControlCall → Type 0
 Leaves how came before after refused refused_after =
     ((bye : Answer) × (came ≡ how) × (bye.call ≡ call.Bye) × (after ≡ before ++ bye ∷ []) × (refused_after ≡ refused))

@@ -20,7 +20,7 @@ use Rattle.chv_session.specs.Response.{StopsIn, BreaksIn, Leaves}
 
 -- ---- what is said, and where a session stands then
 
--- what a call says that left the session there
+-- what a call says that left the session there; a lost session says nothing but want of memory
 abbrev pub said_at : State → Next
 said_at state.Open = next.Answered
 said_at (state.Leaving how) = next.Answered
@@ -99,7 +99,7 @@ Refuses (next.Ended end.Stopped) before after = ⊤
 Refuses _ before after = after ≡ before
 
 -- What an open session did: the bytes that it took, the calls that it made, and the reply that was put, each behind what
--- was there. No byte was taken behind what it answered.
+-- was there. After an answer it took nothing more.
 pub record Step (what : Next) (stands : State) (asked asked_after rest rest_after replied replied_after : List ℕ) (answers answers_after : List Answer) (refused refused_after : Option ControlCall) (put put_after : Option (List ℕ)) (counts : Faults) : Type 0 where
   pub more : List ℕ
   pub made : List Answer
@@ -138,6 +138,7 @@ pub record Breaks (asked asked_after rest replied replied_after : List ℕ) (ans
 
 -- ---- a call, by where the session stood
 
+-- What a call comes to that was made of a session there.
 abbrev pub ComesFrom : State → Next → Moment → Moment → Type 0
 ComesFrom state.Open what before after =
     Step what after.talk.state before.talk.asked after.talk.asked before.talk.rest after.talk.rest before.talk.replied
@@ -154,6 +155,7 @@ ComesFrom state.Lost what before after = ⊥
 abbrev pub ComesTo : Next → Moment → Moment → Type 0
 ComesTo what before after = ComesFrom before.talk.state what before after
 
+-- What want of memory leaves of a session that stood there.
 abbrev pub LosesFrom : State → Moment → Moment → Type 0
 LosesFrom state.Open before after =
     (after.talk.state ≡ state.Lost)

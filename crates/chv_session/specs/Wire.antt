@@ -1,6 +1,9 @@
 -- What a session does to its connection besides taking and putting.
-use Rattle.std.specs.Prelude.{◌≡◌, ⊤, ℕ, Bool, true, List, [], Option, IfSome}
+use Rattle.std.specs.Prelude.{◌≡◌, ◌<◌, ◌⊎◌, ℕ, Bool, true, List, [], ◌++◌, length, Option, IfSome}
 use Rattle.chv_defs.specs.declared.session.SessionEnd.TheVariants as end
+use Rattle.chv_defs.specs.Outside.{Rose}
+use Rattle.chv_defs.specs.Requests.{IsShort}
+use Rattle.chv_defs.specs.SessionBytes.{session_limit}
 use Rattle.chv_session.specs.declared.next.Next.{Next}
 use Rattle.chv_session.specs.declared.next.Next.TheVariants as next
 
@@ -18,9 +21,15 @@ pub record StaysButClosed (left left_after gave gave_after put put_after : Optio
   pub read_stays : read_after ≡ read
   pub written_stays : written_after ≡ written
 
--- A stream ended, or was cut, only where nothing is left, where that is told.
-abbrev pub Drains : Next → Option (List ℕ) → Type 0
-Drains next.Answered left = ⊤
-Drains (next.Ended end.Ended) left = IfSome left (λ bytes. bytes ≡ [])
-Drains (next.Ended end.Cut) left = IfSome left (λ bytes. bytes ≡ [])
-Drains (next.Ended _) left = ⊤
+-- A read failed, and so the session ended, or the run stopped at that end.
+abbrev pub HasReadFault : Next → ℕ → ℕ → Type 0
+HasReadFault (next.Ended end.Fault) reads reads_after = Rose reads reads_after
+HasReadFault (next.Ended end.Stopped) reads reads_after = Rose reads reads_after
+HasReadFault _ reads reads_after = ⊥
+
+-- A session that has neither a whole request nor a refusal at hand, below the limit, has nothing left, where that is told; or
+-- a read failed. That is so at an end, and where the run stopped at one.
+abbrev pub Drains : Next → List ℕ → List ℕ → List ℕ → ℕ → ℕ → Option (List ℕ) → Type 0
+Drains what asked asked_after rest reads reads_after left =
+    (more : List ℕ) → asked_after ≡ asked ++ more → IsShort (rest ++ more) → length asked_after < session_limit
+    → IfSome left (λ bytes. bytes ≡ []) ⊎ HasReadFault what reads reads_after

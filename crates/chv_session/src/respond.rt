@@ -12,7 +12,7 @@ use chv_defs::{Bytes, ControlCall, ControlReply, Desk, Request, SessionEnd, Stop
 use std::alloc::{AllocError, Global};
 
 /// What comes behind a reply.
-#[derive(Clone, Copy, PartialEq, Eq)]
+#[derive(Clone, Copy)]
 pub(crate) enum Then {
     /// The session goes on.
     GoOn,

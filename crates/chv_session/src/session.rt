@@ -44,7 +44,8 @@ fn step<R: Copy, K: Link, T: Desk<R>>(
         (K.written link.old) (K.written link.new)
         (faults (K.read_faults link.old) (K.read_faults link.new) (K.write_faults link.old) (K.write_faults link.new))) }
     ensures closes { IfOk result (λ stands. Closes (said_at stands) (K.closed link.old) (K.closed link.new)) }
-    ensures drains { IfOk result (λ stands. Drains (said_at stands) (K.left link.new)) }
+    ensures drains { IfOk result (λ stands. Drains (said_at stands) asked.old.items asked.new.items parser.old
+        (K.read_faults link.old) (K.read_faults link.new) (K.left link.new)) }
 
     // Want of memory.
     ensures err { OnErr result (Breaks asked.old.items asked.new.items parser.old replied.old.items replied.new.items
@@ -147,7 +148,8 @@ impl Session {
 
         // The connection, which is closed at an end.
         ensures closes { is_over self.old.state ≡ false → IfOk result (λ next. Closes next (K.closed link.old) (K.closed link.new)) }
-        ensures drains { self.old.state ≡ State.Open → IfOk result (λ next. Drains next (K.left link.new)) }
+        ensures drains { self.old.state ≡ State.Open → IfOk result (λ next. Drains next self.old.asked self.new.asked
+            self.old.rest (K.read_faults link.old) (K.read_faults link.new) (K.left link.new)) }
 
         // Want of memory.
         ensures lost { OnErr result (GetsLost

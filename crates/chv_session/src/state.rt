@@ -2,7 +2,7 @@
 use chv_defs::SessionEnd;
 
 /// Where a session stands, as contracts see it.
-#[derive(Clone, Copy, PartialEq, Eq)]
+#[derive(Clone, Copy)]
 pub enum State {
     /// It takes requests.
     Open,

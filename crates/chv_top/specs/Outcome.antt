@@ -85,7 +85,8 @@ TakesAtMost left left_after most = (taken : List ℕ) × Loses left left_after t
 -- ---- what the statuses say
 
 -- A scenario was played: the input, read to its end, is a scenario of these sessions; the trace is the one that the
--- schedule gives, where these disks stand by, and what was written is its text. Its control history is legal.
+-- schedule gives, where these disks stand by, and what was written is its text. Its control history is legal, and in it each
+-- session made its calls in order.
 pub record IsPlayed (shelf : List OnShelf) (left left_after written written_after : Option (List ℕ)) : Type 0 where
   pub text : List ℕ
   pub sessions : Sessions

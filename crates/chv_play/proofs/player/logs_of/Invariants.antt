@@ -1,4 +1,4 @@
-use Rattle.std.proofs.Common.{◌≡◌, ◌+◌, ◌++◌, length, vec_len}
+use Rattle.std.proofs.Common.{◌≡◌, ◌+◌, ◌++◌, length}
 use Rattle.chv_play.specs.Played.{logs_at}
 use Rattle.chv_play.proofs.player.logs_of.Given as goal
 

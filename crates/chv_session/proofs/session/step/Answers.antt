@@ -2,6 +2,7 @@ use Rattle.std.proofs.Common.{◌∙◌, refl, arith}
 use Rattle.chv_session.proofs.ResultLemmas.{on_err}
 use Rattle.chv_session.proofs.StepLemmas.{turn_is, step_is, breaks_taking, breaks_making, breaks_sending, breaks_ending}
 use Rattle.chv_session.proofs.AskedLemmas.{asked_join}
+use Rattle.chv_session.proofs.DrainLemmas.{drains_is}
 use Rattle.chv_session.proofs.session.step.Goals as goal
 
 pub returns-in_err-found-clause-err : goal.returns-in_err-found-clause-err
@@ -38,3 +39,10 @@ returns-in_err-stands-clause-asked g c = asked_join _ _ _ _ c.respond.ensures.as
 
 pub returns-clause-asked : goal.returns-clause-asked
 returns-clause-asked g c = asked_join _ _ _ _ c.respond.ensures.asked c.finish.ensures.asked
+
+pub returns-clause-drains : goal.returns-clause-drains
+returns-clause-drains g c =
+    drains_is _ _ _ _ _ _ _ _ _ _ _ _ _ _ _ _ _ _ _ _ _ _ _ _ _ _ _ _ _ c.in_ok-found.ensures.found c.in_ok-found.ensures.drained
+    c.in_ok-found.ensures.cause (omega (arith, c.send.ensures.leaves.later, c.finish.ensures.stays.read_stays))
+    (c.finish.ensures.stays.left_stays ∙ c.send.ensures.leaves.left_stays) c.in_ok-response.ensures.responds
+    c.in_ok-then.ensures.sends c.in_ok-stands.ensures.finishes

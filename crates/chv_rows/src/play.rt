@@ -1,7 +1,7 @@
 // What no clause says by itself: in which order the sessions take their turns, and how they end.
-use super::*;
 use chv_control::Start;
 use chv_defs::{Asked, Bytes, ControlEntry, Row, SessionEnd, SessionTrace, Text};
+use chv_play::play;
 use chv_store::MemDisk;
 use std::alloc::{AllocError, Global};
 use std::test::Fail;
