@@ -19,16 +19,23 @@ type Zone = (u64, u64);
 /// A look-up: address, length and place.
 type LookUp = (u64, u64, Place);
 
-fn ram(zone: u8, block: u32, offset: u32) -> Place {
-    Place::Ram {
-        zone,
-        block,
-        offset,
-    }
+macro_rules! ram {
+    ($zone:expr, $block:expr, $offset:expr) => {
+        Place::Ram {
+            zone: $zone,
+            block: $block,
+            offset: $offset,
+        }
+    };
 }
 
-fn bar(slot: u8, offset: u32) -> Place {
-    Place::Bar { slot, offset }
+macro_rules! bar {
+    ($slot:expr, $offset:expr) => {
+        Place::Bar {
+            slot: $slot,
+            offset: $offset,
+        }
+    };
 }
 
 fn config_of(alloc: Global, zones: &[Zone]) -> Result<VmConfig, AllocError> {
@@ -68,145 +75,162 @@ fn finds(alloc: Global, zones: &[Zone], wanted: &[LookUp]) -> Result<bool, Fail>
     )
 }
 
+const WORKED: [LookUp; 5] = [
+    (0xbfff_ffff, 1, ram!(0, 1535, 2_097_151)),
+    (0xc000_0000, 1, Place::Hole),
+    (0x1_0000_0000, 8, ram!(0, 1536, 0)),
+    (0xbfff_fffc, 8, Place::Crosses),
+    (0x1_0020_0000, 1, Place::Hole),
+];
+
 #[test]
 fn worked_look_ups(rt: HostRuntime) -> Result<(), Fail> {
-    let wanted = [
-        (0xbfff_ffff, 1, ram(0, 1535, 2_097_151)),
-        (0xc000_0000, 1, Place::Hole),
-        (0x1_0000_0000, 8, ram(0, 1536, 0)),
-        (0xbfff_fffc, 8, Place::Crosses),
-        (0x1_0020_0000, 1, Place::Hole),
-    ];
-    assert!(rt; finds(rt.alloc(), &[(3_223_322_624, 0)], &wanted)?);
+    assert!(rt; finds(rt.alloc(), &[(3_223_322_624, 0)], &WORKED)?);
     Ok(())
 }
 
+const WINDOWS: [LookUp; 16] = [
+    (0xe000_ffff, 1, Place::Hole),
+    (0xe000_ffff, 2, Place::Crosses),
+    (0xe001_0000, 1, bar!(1, 0)),
+    (0xe001_0000, 0x1_0000, bar!(1, 0)),
+    (0xe001_0000, 0x1_0001, Place::Crosses),
+    (0xe002_0000, 4, bar!(2, 0)),
+    (0xe01f_fffe, 2, bar!(31, 0xfffe)),
+    (0xe01f_fffe, 3, Place::Crosses),
+    (0xe020_0000, 1, Place::Hole),
+    (0x40_0000, 0xdfc1_0000, Place::Hole),
+    (0x40_0000, 0xdfc1_0001, Place::Crosses),
+    (0xe020_0000, u64::MAX - 0xe020_0000 + 1, Place::Hole),
+    (u64::MAX, 1, Place::Hole),
+    (u64::MAX, 2, Place::Crosses),
+    (u64::MAX, u64::MAX, Place::Crosses),
+    (0xe001_0000, 0, Place::Crosses),
+];
+
 #[test]
 fn edges_of_windows(rt: HostRuntime) -> Result<(), Fail> {
-    let wanted = [
-        (0xe000_ffff, 1, Place::Hole),
-        (0xe000_ffff, 2, Place::Crosses),
-        (0xe001_0000, 1, bar(1, 0)),
-        (0xe001_0000, 0x1_0000, bar(1, 0)),
-        (0xe001_0000, 0x1_0001, Place::Crosses),
-        (0xe002_0000, 4, bar(2, 0)),
-        (0xe01f_fffe, 2, bar(31, 0xfffe)),
-        (0xe01f_fffe, 3, Place::Crosses),
-        (0xe020_0000, 1, Place::Hole),
-        (0x40_0000, 0xdfc1_0000, Place::Hole),
-        (0x40_0000, 0xdfc1_0001, Place::Crosses),
-        (0xe020_0000, u64::MAX - 0xe020_0000 + 1, Place::Hole),
-        (u64::MAX, 1, Place::Hole),
-        (u64::MAX, 2, Place::Crosses),
-        (u64::MAX, u64::MAX, Place::Crosses),
-        (0xe001_0000, 0, Place::Crosses),
-    ];
-    assert!(rt; finds(rt.alloc(), &[(4 * MIB, 0)], &wanted)?);
+    assert!(rt; finds(rt.alloc(), &[(4 * MIB, 0)], &WINDOWS)?);
     Ok(())
 }
+
+const FIXED: [LookUp; 9] = [
+    (0, 1, ram!(0, 0, 0)),
+    (0, 0, Place::Crosses),
+    (0, 2_097_152, ram!(0, 0, 0)),
+    (0, 2_097_153, Place::Crosses),
+    (0x1f_ffff, 1, ram!(0, 0, 2_097_151)),
+    (0x1f_ffff, 2, Place::Crosses),
+    (0x3f_fffc, 4, ram!(0, 1, 2_097_148)),
+    (0x3f_fffc, 5, Place::Crosses),
+    (0x40_0000, 1, Place::Hole),
+];
+
+const GROWS: [LookUp; 7] = [
+    (0x3fff_ffff, 1, ram!(0, 511, 2_097_151)),
+    (0x4000_0000, 1, Place::Hole),
+    (0xffff_ffff, 1, Place::Hole),
+    (0xffff_ffff, 2, Place::Crosses),
+    (0x1_0000_0000, 1, ram!(0, 512, 0)),
+    (0x1_7fff_ffff, 1, ram!(0, 1535, 2_097_151)),
+    (0x1_8000_0000, 1, Place::Hole),
+];
+
+const PAST: [LookUp; 5] = [
+    (0x1_001f_ffff, 1, ram!(0, 1536, 2_097_151)),
+    (0x1_0020_0000, 0x7e0_0000, Place::Hole),
+    (0x1_0800_0000, 1, ram!(0, 1537, 0)),
+    (0x1_083f_ffff, 1, ram!(0, 1538, 2_097_151)),
+    (0x1_0840_0000, 1, Place::Hole),
+];
 
 #[test]
 fn edges_of_one_zone(rt: HostRuntime) -> Result<(), Fail> {
     let alloc = rt.alloc();
-    let fixed = [
-        (0, 1, ram(0, 0, 0)),
-        (0, 0, Place::Crosses),
-        (0, 2_097_152, ram(0, 0, 0)),
-        (0, 2_097_153, Place::Crosses),
-        (0x1f_ffff, 1, ram(0, 0, 2_097_151)),
-        (0x1f_ffff, 2, Place::Crosses),
-        (0x3f_fffc, 4, ram(0, 1, 2_097_148)),
-        (0x3f_fffc, 5, Place::Crosses),
-        (0x40_0000, 1, Place::Hole),
-    ];
-    assert!(rt; finds(alloc, &[(4 * MIB, 0)], &fixed)?);
-    let grows = [
-        (0x3fff_ffff, 1, ram(0, 511, 2_097_151)),
-        (0x4000_0000, 1, Place::Hole),
-        (0xffff_ffff, 1, Place::Hole),
-        (0xffff_ffff, 2, Place::Crosses),
-        (0x1_0000_0000, 1, ram(0, 512, 0)),
-        (0x1_7fff_ffff, 1, ram(0, 1535, 2_097_151)),
-        (0x1_8000_0000, 1, Place::Hole),
-    ];
-    assert!(rt; finds(alloc, &[(GIB, 2 * GIB)], &grows)?);
-    let past = [
-        (0x1_001f_ffff, 1, ram(0, 1536, 2_097_151)),
-        (0x1_0020_0000, 0x7e0_0000, Place::Hole),
-        (0x1_0800_0000, 1, ram(0, 1537, 0)),
-        (0x1_083f_ffff, 1, ram(0, 1538, 2_097_151)),
-        (0x1_0840_0000, 1, Place::Hole),
-    ];
-    assert!(rt; finds(alloc, &[(3 * GIB + 2 * MIB, 4 * MIB)], &past)?);
+    assert!(rt; finds(alloc, &[(4 * MIB, 0)], &FIXED)?);
+    assert!(rt; finds(alloc, &[(GIB, 2 * GIB)], &GROWS)?);
+    assert!(rt; finds(alloc, &[(3 * GIB + 2 * MIB, 4 * MIB)], &PAST)?);
     Ok(())
 }
+
+const SECOND_STRADDLES: [LookUp; 8] = [
+    (0x7fff_ffff, 1, ram!(0, 1023, 2_097_151)),
+    (0x7fff_ffff, 2, Place::Crosses),
+    (0x8000_0000, 1, ram!(1, 0, 0)),
+    (0xbfff_ffff, 1, ram!(1, 511, 2_097_151)),
+    (0xc000_0000, 1, Place::Hole),
+    (0x1_0000_0000, 1, ram!(1, 512, 0)),
+    (0x1_3fff_ffff, 1, ram!(1, 1023, 2_097_151)),
+    (0x1_4000_0000, 1, Place::Hole),
+];
+
+const FIRST_STRADDLES: [LookUp; 5] = [
+    (0xbfff_ffff, 1, ram!(0, 1535, 2_097_151)),
+    (0x1_0000_0000, 1, ram!(0, 1536, 0)),
+    (0x1_3fff_ffff, 1, ram!(0, 2047, 2_097_151)),
+    (0x1_4000_0000, 1, ram!(1, 0, 0)),
+    (0x1_4020_0000, 1, Place::Hole),
+];
+
+const BOTH_GROW: [LookUp; 7] = [
+    (0x20_0000, 1, ram!(1, 0, 0)),
+    (0x40_0000, 1, Place::Hole),
+    (0x1_0000_0000, 1, ram!(0, 1, 0)),
+    (0x1_0020_0000, 1, Place::Hole),
+    (0x1_0800_0000, 1, ram!(1, 1, 0)),
+    (0x1_0820_0000, 1, ram!(1, 2, 0)),
+    (0x1_0840_0000, 1, Place::Hole),
+];
 
 #[test]
 fn edges_of_two_zones(rt: HostRuntime) -> Result<(), Fail> {
     let alloc = rt.alloc();
-    let second_straddles = [
-        (0x7fff_ffff, 1, ram(0, 1023, 2_097_151)),
-        (0x7fff_ffff, 2, Place::Crosses),
-        (0x8000_0000, 1, ram(1, 0, 0)),
-        (0xbfff_ffff, 1, ram(1, 511, 2_097_151)),
-        (0xc000_0000, 1, Place::Hole),
-        (0x1_0000_0000, 1, ram(1, 512, 0)),
-        (0x1_3fff_ffff, 1, ram(1, 1023, 2_097_151)),
-        (0x1_4000_0000, 1, Place::Hole),
-    ];
-    assert!(rt; finds(alloc, &[(2 * GIB, 0), (2 * GIB, 0)], &second_straddles)?);
-    let first_straddles = [
-        (0xbfff_ffff, 1, ram(0, 1535, 2_097_151)),
-        (0x1_0000_0000, 1, ram(0, 1536, 0)),
-        (0x1_3fff_ffff, 1, ram(0, 2047, 2_097_151)),
-        (0x1_4000_0000, 1, ram(1, 0, 0)),
-        (0x1_4020_0000, 1, Place::Hole),
-    ];
-    assert!(rt; finds(alloc, &[(4 * GIB, 0), (2 * MIB, 0)], &first_straddles)?);
-    let both_grow = [
-        (0x20_0000, 1, ram(1, 0, 0)),
-        (0x40_0000, 1, Place::Hole),
-        (0x1_0000_0000, 1, ram(0, 1, 0)),
-        (0x1_0020_0000, 1, Place::Hole),
-        (0x1_0800_0000, 1, ram(1, 1, 0)),
-        (0x1_0820_0000, 1, ram(1, 2, 0)),
-        (0x1_0840_0000, 1, Place::Hole),
-    ];
-    assert!(rt; finds(alloc, &[(2 * MIB, 2 * MIB), (2 * MIB, 4 * MIB)], &both_grow)?);
+    assert!(rt; finds(alloc, &[(2 * GIB, 0), (2 * GIB, 0)], &SECOND_STRADDLES)?);
+    assert!(rt; finds(alloc, &[(4 * GIB, 0), (2 * MIB, 0)], &FIRST_STRADDLES)?);
+    assert!(rt; finds(alloc, &[(2 * MIB, 2 * MIB), (2 * MIB, 4 * MIB)], &BOTH_GROW)?);
     Ok(())
 }
+
+const BOOT: [LookUp; 6] = [
+    (0xbfff_ffff, 1, ram!(5, 255, 2_097_151)),
+    (0xc000_0000, 1, Place::Hole),
+    (0x1_0000_0000, 1, ram!(6, 0, 0)),
+    (0x1_1fff_ffff, 1, ram!(6, 255, 2_097_151)),
+    (0x1_2000_0000, 1, ram!(7, 0, 0)),
+    (0x1_3fff_ffff, 1, ram!(7, 255, 2_097_151)),
+];
+
+const PLUGGED: [LookUp; 6] = [
+    (0x1_4000_0000, 1, ram!(0, 256, 0)),
+    (0x1_481f_ffff, 1, ram!(0, 320, 2_097_151)),
+    (0x1_4820_0000, 1, Place::Hole),
+    (0x1_b000_0000, 1, ram!(7, 256, 0)),
+    (0x1_b81f_ffff, 1, ram!(7, 320, 2_097_151)),
+    (0x1_b820_0000, 1, Place::Hole),
+];
 
 #[test]
 fn edges_of_eight_zones(rt: HostRuntime) -> Result<(), Fail> {
     let alloc = rt.alloc();
-    let boot = [
-        (0xbfff_ffff, 1, ram(5, 255, 2_097_151)),
-        (0xc000_0000, 1, Place::Hole),
-        (0x1_0000_0000, 1, ram(6, 0, 0)),
-        (0x1_1fff_ffff, 1, ram(6, 255, 2_097_151)),
-        (0x1_2000_0000, 1, ram(7, 0, 0)),
-        (0x1_3fff_ffff, 1, ram(7, 255, 2_097_151)),
-    ];
-    let fixed = [(512 * MIB, 0); 8];
-    assert!(rt; finds(alloc, &fixed, &boot)?);
-    assert!(rt; finds(alloc, &fixed, &[(0x1_4000_0000, 1, Place::Hole)])?);
-    let grown = [(512 * MIB, 130 * MIB); 8];
-    assert!(rt; finds(alloc, &grown, &boot)?);
-    let plugged = [
-        (0x1_4000_0000, 1, ram(0, 256, 0)),
-        (0x1_481f_ffff, 1, ram(0, 320, 2_097_151)),
-        (0x1_4820_0000, 1, Place::Hole),
-        (0x1_b000_0000, 1, ram(7, 256, 0)),
-        (0x1_b81f_ffff, 1, ram(7, 320, 2_097_151)),
-        (0x1_b820_0000, 1, Place::Hole),
-    ];
-    assert!(rt; finds(alloc, &grown, &plugged)?);
+    assert!(rt; finds(alloc, &[(512 * MIB, 0); 8], &BOOT)?);
+    assert!(rt;
+        finds(
+            alloc,
+            &[(512 * MIB, 0); 8],
+            &[(0x1_4000_0000, 1, Place::Hole)]
+        )?
+    );
+    assert!(rt; finds(alloc, &[(512 * MIB, 130 * MIB); 8], &BOOT)?);
+    assert!(rt; finds(alloc, &[(512 * MIB, 130 * MIB); 8], &PLUGGED)?);
     Ok(())
 }
 
-/// The hotplug region of one of some zones.
-fn region_of(alloc: Global, zones: &[Zone], zone: u8) -> Result<Option<Region>, Fail> {
-    let checked = checked_of(alloc, zones)?;
+/// Three zones, of which the second does not grow.
+const THREE: [Zone; 3] = [(3 * GIB + 2 * MIB, 4 * MIB), (2 * MIB, 0), (GIB, 64 * MIB)];
+
+/// The hotplug region of one of them.
+fn region_of(alloc: Global, zone: u8) -> Result<Option<Region>, Fail> {
+    let checked = checked_of(alloc, &THREE)?;
     if usize::from(zone) >= checked.zones.len() {
         return Ok(None);
     }
@@ -216,12 +240,16 @@ fn region_of(alloc: Global, zones: &[Zone], zone: u8) -> Result<Option<Region>, 
 
 #[test]
 fn regions(rt: HostRuntime) -> Result<(), Fail> {
-    let alloc = rt.alloc();
-    let zones = [(3 * GIB + 2 * MIB, 4 * MIB), (2 * MIB, 0), (GIB, 64 * MIB)];
-    for (zone, addr, size) in [(0, 0x1_4800_0000, 4 * MIB), (2, 0x1_5000_0000, 64 * MIB)] {
-        let want = Some(Region { addr, size });
-        assert!(rt; region_of(alloc, &zones, zone)? == want);
-    }
-    assert!(rt; region_of(alloc, &zones, 1)?.is_some_and(|region| region.size == 0));
+    let first = Region {
+        addr: 0x1_4800_0000,
+        size: 4 * MIB,
+    };
+    let third = Region {
+        addr: 0x1_5000_0000,
+        size: 64 * MIB,
+    };
+    assert!(rt; region_of(rt.alloc(), 0)? == Some(first));
+    assert!(rt; region_of(rt.alloc(), 1)?.is_some_and(|region| region.size == 0));
+    assert!(rt; region_of(rt.alloc(), 2)? == Some(third));
     Ok(())
 }

@@ -1,8 +1,8 @@
 // The rules, each just broken and just kept, and the worked configurations.
-use crate::common::name;
+use crate::common::{name, plain_config};
 use chv_config::{check, check_disk};
 use chv_defs::{
-    Checked, CpuConfig, DiskConfig, Hotplug, MemConfig, Name, Row, Rule, Text, VmConfig, ZoneConfig,
+    Checked, CpuConfig, DiskConfig, Hotplug, Name, Row, Rule, Text, VmConfig, ZoneConfig,
 };
 use std::alloc::{AllocError, Global};
 use std::test::Fail;
@@ -12,6 +12,9 @@ const MIB: u64 = 1 << 20;
 const GIB: u64 = 1 << 30;
 
 const GOOD: (&str, Option<&str>, u64, u64) = ("/images/a", None, 1, 128);
+
+/// vCPUs at boot and at most, then the size, the `hotplug_size` and the `hotplugged_size` of the memory.
+type Sizes = (u64, u64, u64, u64, u64);
 
 /// A zone: its id, size, `hotplug_size` and `hotplugged_size`.
 type Zone<'a> = (&'a str, u64, u64, u64);
@@ -44,34 +47,27 @@ fn disk_of(alloc: Global, disk: &Disk) -> Result<DiskConfig, AllocError> {
 
 fn config_of(
     alloc: Global,
-    cpus: (u64, u64),
-    memory: (u64, u64, u64),
+    sizes: &Sizes,
     way: Hotplug,
     zones: &[Zone],
     disks: &[Disk],
 ) -> Result<VmConfig, AllocError> {
-    let mut zone_row = Row::empty(alloc);
+    let mut config = plain_config(alloc);
+    config.cpus = CpuConfig {
+        boot: sizes.0,
+        max: sizes.1,
+    };
+    config.memory.size = sizes.2;
+    config.memory.hotplug = sizes.3;
+    config.memory.hotplugged = sizes.4;
+    config.memory.way = way;
     for zone in zones {
-        zone_row.push(zone_of(alloc, zone)?)?;
+        config.memory.zones.push(zone_of(alloc, zone)?)?;
     }
-    let mut disk_row = Row::empty(alloc);
     for disk in disks {
-        disk_row.push(disk_of(alloc, disk)?)?;
+        config.disks.push(disk_of(alloc, disk)?)?;
     }
-    Ok(VmConfig {
-        cpus: CpuConfig {
-            boot: cpus.0,
-            max: cpus.1,
-        },
-        memory: MemConfig {
-            size: memory.0,
-            hotplug: memory.1,
-            hotplugged: memory.2,
-            way,
-            zones: zone_row,
-        },
-        disks: disk_row,
-    })
+    Ok(config)
 }
 
 /// Names of disks that stand by.
@@ -84,139 +80,205 @@ fn names_of(alloc: Global, names: &[&str]) -> Result<Row<Name>, Fail> {
 }
 
 /// The rule by which a configuration is refused, where the disks `a`, `b` and `c` stand by.
-fn rule_of(alloc: Global, config: VmConfig) -> Result<Option<Rule>, Fail> {
+fn rule_of(alloc: Global, config: &VmConfig) -> Result<Option<Rule>, Fail> {
     let names = names_of(alloc, &["a", "b", "c"])?;
-    match check(alloc, &config, &names)? {
-        Ok(_) => Ok(None),
-        Err(rule) => Ok(Some(rule)),
+    Ok(check(alloc, config, &names)?.err())
+}
+
+/// The configuration that is kept, where these disks stand by.
+fn kept(alloc: Global, config: &VmConfig, names: &[&str]) -> Result<Checked, Fail> {
+    match check(alloc, config, &names_of(alloc, names)?)? {
+        Ok(checked) => Ok(checked),
+        Err(rule) => Err(rule.name().into()),
     }
+}
+
+const SIZES: [(Sizes, Hotplug, Option<Rule>); 14] = [
+    ((1, 1, 2 * MIB, 0, 0), Hotplug::Acpi, None),
+    ((0, 1, 2 * MIB, 0, 0), Hotplug::Acpi, Some(Rule::BootZero)),
+    (
+        (3, 2, 2 * MIB, 0, 0),
+        Hotplug::Acpi,
+        Some(Rule::BootAboveMax),
+    ),
+    ((16, 16, 2 * MIB, 0, 0), Hotplug::Acpi, None),
+    (
+        (16, 17, 2 * MIB, 0, 0),
+        Hotplug::Acpi,
+        Some(Rule::VcpusAboveLimit),
+    ),
+    ((1, 1, 0, 0, 0), Hotplug::Acpi, Some(Rule::SizeZero)),
+    (
+        (1, 1, 3 * MIB, 0, 0),
+        Hotplug::Acpi,
+        Some(Rule::SizeUnaligned),
+    ),
+    (
+        (1, 1, 2 * MIB, 1, 0),
+        Hotplug::Acpi,
+        Some(Rule::SizeUnaligned),
+    ),
+    ((1, 1, 64 * GIB, 0, 0), Hotplug::Acpi, None),
+    (
+        (1, 1, 64 * GIB + 2 * MIB, 0, 0),
+        Hotplug::Acpi,
+        Some(Rule::ZoneTooLarge),
+    ),
+    (
+        (1, 1, u64::MAX - 2 * MIB + 1, u64::MAX - 2 * MIB + 1, 0),
+        Hotplug::Acpi,
+        Some(Rule::ZoneTooLarge),
+    ),
+    (
+        (1, 1, 2 * MIB, 2 * MIB, 4 * MIB),
+        Hotplug::Acpi,
+        Some(Rule::HotpluggedAbove),
+    ),
+    (
+        (1, 1, 2 * MIB, 2 * MIB, 2 * MIB),
+        Hotplug::Acpi,
+        Some(Rule::WayAcpi),
+    ),
+    ((1, 1, 2 * MIB, 2 * MIB, 2 * MIB), Hotplug::VirtioMem, None),
+];
+
+fn rule_of_sizes(alloc: Global, sizes: &Sizes, way: Hotplug) -> Result<Option<Rule>, Fail> {
+    rule_of(alloc, &config_of(alloc, sizes, way, &[], &[])?)
 }
 
 #[test]
 fn vcpus_and_memory(rt: HostRuntime) -> Result<(), Fail> {
-    let alloc = rt.alloc();
-    let acpi = Hotplug::Acpi;
-    for (cpus, memory, rule) in [
-        ((1, 1), (2 * MIB, 0, 0), None),
-        ((0, 1), (2 * MIB, 0, 0), Some(Rule::BootZero)),
-        ((3, 2), (2 * MIB, 0, 0), Some(Rule::BootAboveMax)),
-        ((16, 16), (2 * MIB, 0, 0), None),
-        ((16, 17), (2 * MIB, 0, 0), Some(Rule::VcpusAboveLimit)),
-        ((1, 1), (0, 0, 0), Some(Rule::SizeZero)),
-        ((1, 1), (3 * MIB, 0, 0), Some(Rule::SizeUnaligned)),
-        ((1, 1), (2 * MIB, 1, 0), Some(Rule::SizeUnaligned)),
-        ((1, 1), (64 * GIB, 0, 0), None),
-        ((1, 1), (64 * GIB + 2 * MIB, 0, 0), Some(Rule::ZoneTooLarge)),
-        (
-            (1, 1),
-            (u64::MAX - 2 * MIB + 1, u64::MAX - 2 * MIB + 1, 0),
-            Some(Rule::ZoneTooLarge),
-        ),
-        (
-            (1, 1),
-            (2 * MIB, 2 * MIB, 4 * MIB),
-            Some(Rule::HotpluggedAbove),
-        ),
-        ((1, 1), (2 * MIB, 2 * MIB, 2 * MIB), Some(Rule::WayAcpi)),
-    ] {
-        let config = config_of(alloc, cpus, memory, acpi, &[], &[])?;
-        assert!(rt; rule_of(alloc, config)? == rule, "{cpus:?} {memory:?}");
+    for (sizes, way, rule) in &SIZES {
+        let came = rule_of_sizes(rt.alloc(), sizes, *way)?;
+        assert!(rt; came == *rule, "{} {} {}", sizes.0, sizes.1, sizes.2);
     }
-    let grown = config_of(
-        alloc,
-        (1, 1),
-        (2 * MIB, 2 * MIB, 2 * MIB),
-        Hotplug::VirtioMem,
-        &[],
-        &[],
-    )?;
-    assert!(rt; rule_of(alloc, grown)? == None);
     Ok(())
+}
+
+const LONG_ZONE: &str = "a23456789012345678901234";
+
+const TOO_LONG_ZONE: &str = "a234567890123456789012345";
+
+/// The memory, a zone behind the zone `z0` of 1 GiB, and the rule.
+const ZONES: [(Sizes, Zone<'static>, Option<Rule>); 14] = [
+    ((1, 1, 0, 0, 0), ("z1", GIB, 0, 0), None),
+    (
+        (1, 1, GIB, 0, 0),
+        ("z1", GIB, 0, 0),
+        Some(Rule::ZonesNeedSizeZero),
+    ),
+    (
+        (1, 1, 0, 2 * MIB, 0),
+        ("z1", GIB, 0, 0),
+        Some(Rule::ZonesOwnHotplug),
+    ),
+    (
+        (1, 1, 0, 0, 2 * MIB),
+        ("z1", GIB, 0, 0),
+        Some(Rule::ZonesOwnHotplug),
+    ),
+    ((1, 1, 0, 0, 0), ("z1", 0, 0, 0), Some(Rule::SizeZero)),
+    ((1, 1, 0, 0, 0), ("", GIB, 0, 0), Some(Rule::ZoneIdBad)),
+    ((1, 1, 0, 0, 0), ("z.1", GIB, 0, 0), Some(Rule::ZoneIdBad)),
+    ((1, 1, 0, 0, 0), (LONG_ZONE, GIB, 0, 0), None),
+    (
+        (1, 1, 0, 0, 0),
+        (TOO_LONG_ZONE, GIB, 0, 0),
+        Some(Rule::ZoneIdBad),
+    ),
+    ((1, 1, 0, 0, 0), ("z0", GIB, 0, 0), Some(Rule::ZoneIdTwice)),
+    (
+        (1, 1, 0, 0, 0),
+        ("z1", GIB, 0, MIB),
+        Some(Rule::SizeUnaligned),
+    ),
+    (
+        (1, 1, 0, 0, 0),
+        ("z1", 64 * GIB, 2 * MIB, 0),
+        Some(Rule::ZoneTooLarge),
+    ),
+    (
+        (1, 1, 0, 0, 0),
+        ("z1", GIB, 0, 2 * MIB),
+        Some(Rule::HotpluggedAbove),
+    ),
+    (
+        (1, 1, 0, 0, 0),
+        ("z1", GIB, 2 * MIB, 0),
+        Some(Rule::WayForZones),
+    ),
+];
+
+fn rule_of_zones(alloc: Global, sizes: &Sizes, second: &Zone) -> Result<Option<Rule>, Fail> {
+    let zones = [("z0", GIB, 0, 0), *second];
+    rule_of(alloc, &config_of(alloc, sizes, Hotplug::Acpi, &zones, &[])?)
 }
 
 #[test]
 fn zones(rt: HostRuntime) -> Result<(), Fail> {
-    let alloc = rt.alloc();
-    let one = ("z0", GIB, 0, 0);
-    let long = "a23456789012345678901234";
-    let too_long = "a234567890123456789012345";
-    for (memory, second, rule) in [
-        ((0, 0, 0), ("z1", GIB, 0, 0), None),
-        (
-            (GIB, 0, 0),
-            ("z1", GIB, 0, 0),
-            Some(Rule::ZonesNeedSizeZero),
-        ),
-        (
-            (0, 2 * MIB, 0),
-            ("z1", GIB, 0, 0),
-            Some(Rule::ZonesOwnHotplug),
-        ),
-        (
-            (0, 0, 2 * MIB),
-            ("z1", GIB, 0, 0),
-            Some(Rule::ZonesOwnHotplug),
-        ),
-        ((0, 0, 0), ("z1", 0, 0, 0), Some(Rule::SizeZero)),
-        ((0, 0, 0), ("", GIB, 0, 0), Some(Rule::ZoneIdBad)),
-        ((0, 0, 0), ("z.1", GIB, 0, 0), Some(Rule::ZoneIdBad)),
-        ((0, 0, 0), (long, GIB, 0, 0), None),
-        ((0, 0, 0), (too_long, GIB, 0, 0), Some(Rule::ZoneIdBad)),
-        ((0, 0, 0), ("z0", GIB, 0, 0), Some(Rule::ZoneIdTwice)),
-        ((0, 0, 0), ("z1", GIB, 0, MIB), Some(Rule::SizeUnaligned)),
-        (
-            (0, 0, 0),
-            ("z1", 64 * GIB, 2 * MIB, 0),
-            Some(Rule::ZoneTooLarge),
-        ),
-        (
-            (0, 0, 0),
-            ("z1", GIB, 0, 2 * MIB),
-            Some(Rule::HotpluggedAbove),
-        ),
-        ((0, 0, 0), ("z1", GIB, 2 * MIB, 0), Some(Rule::WayForZones)),
-    ] {
-        let config = config_of(alloc, (1, 1), memory, Hotplug::Acpi, &[one, second], &[])?;
-        assert!(rt; rule_of(alloc, config)? == rule, "{memory:?} {second:?}");
-    }
-    for (count, rule) in [(8, None), (9, Some(Rule::TooManyZones))] {
-        let mut config = config_of(alloc, (1, 1), (0, 0, 0), Hotplug::VirtioMem, &[], &[])?;
-        for k in 0..count {
-            let id = format!(in alloc; "z{k}")?;
-            let zone = zone_of(alloc, &(id.as_str(), 2 * MIB, 2 * MIB, 0))?;
-            config.memory.zones.push(zone)?;
-        }
-        assert!(rt; rule_of(alloc, config)? == rule, "{count}");
+    for (sizes, second, rule) in &ZONES {
+        let came = rule_of_zones(rt.alloc(), sizes, second)?;
+        assert!(rt; came == *rule, "{} {}", sizes.2, second.0);
     }
     Ok(())
 }
 
+fn rule_of_many_zones(alloc: Global, count: usize) -> Result<Option<Rule>, Fail> {
+    let mut config = config_of(alloc, &(1, 1, 0, 0, 0), Hotplug::VirtioMem, &[], &[])?;
+    for k in 0..count {
+        let id = format!(in alloc; "z{k}")?;
+        let zone = zone_of(alloc, &(id.as_str(), 2 * MIB, 2 * MIB, 0))?;
+        config.memory.zones.push(zone)?;
+    }
+    rule_of(alloc, &config)
+}
+
+#[test]
+fn many_zones(rt: HostRuntime) -> Result<(), Fail> {
+    assert!(rt; rule_of_many_zones(rt.alloc(), 8)? == None);
+    assert!(rt; rule_of_many_zones(rt.alloc(), 9)? == Some(Rule::TooManyZones));
+    Ok(())
+}
+
+const LONG_DISK: &str = "a2345678901234567890123456789012";
+
+const TOO_LONG_DISK: &str = "a23456789012345678901234567890123";
+
+/// A disk behind the disk `GOOD`, and the rule.
+const DISKS: [(Disk<'static>, Option<Rule>); 16] = [
+    (("b", None, 1, 128), None),
+    (("/x/y/d", None, 1, 128), Some(Rule::DiskUnknown)),
+    (("/x/b/", None, 1, 128), Some(Rule::DiskUnknown)),
+    (("a", None, 1, 128), Some(Rule::DiskTwice)),
+    (("b", Some(LONG_DISK), 1, 128), None),
+    (("b", Some(TOO_LONG_DISK), 1, 128), Some(Rule::DeviceIdBad)),
+    (("b", Some(""), 1, 128), Some(Rule::DeviceIdBad)),
+    (("b", Some("b.raw"), 1, 128), Some(Rule::DeviceIdBad)),
+    (("b", Some("_mem_mem0"), 1, 128), Some(Rule::DeviceIdTwice)),
+    (("b", Some("_disk0"), 1, 128), None),
+    (("b", None, 2, 128), Some(Rule::QueueShape)),
+    (("b", None, 1, 0), Some(Rule::QueueShape)),
+    (("b", None, 1, 1), None),
+    (("b", None, 1, 1024), None),
+    (("b", None, 1, 2048), Some(Rule::QueueShape)),
+    (("b", None, 1, 96), Some(Rule::QueueShape)),
+];
+
+fn config_of_disks(alloc: Global, second: &Disk) -> Result<VmConfig, AllocError> {
+    config_of(
+        alloc,
+        &(1, 1, GIB, GIB, 0),
+        Hotplug::VirtioMem,
+        &[],
+        &[GOOD, *second],
+    )
+}
+
 #[test]
 fn disks(rt: HostRuntime) -> Result<(), Fail> {
-    let alloc = rt.alloc();
-    let long = "a2345678901234567890123456789012";
-    let too_long = "a23456789012345678901234567890123";
-    for (second, rule) in [
-        (("b", None, 1, 128), None),
-        (("/x/y/d", None, 1, 128), Some(Rule::DiskUnknown)),
-        (("/x/b/", None, 1, 128), Some(Rule::DiskUnknown)),
-        (("a", None, 1, 128), Some(Rule::DiskTwice)),
-        (("b", Some(long), 1, 128), None),
-        (("b", Some(too_long), 1, 128), Some(Rule::DeviceIdBad)),
-        (("b", Some(""), 1, 128), Some(Rule::DeviceIdBad)),
-        (("b", Some("b.raw"), 1, 128), Some(Rule::DeviceIdBad)),
-        (("b", Some("_mem_mem0"), 1, 128), Some(Rule::DeviceIdTwice)),
-        (("b", Some("_disk0"), 1, 128), None),
-        (("b", None, 2, 128), Some(Rule::QueueShape)),
-        (("b", None, 1, 0), Some(Rule::QueueShape)),
-        (("b", None, 1, 1), None),
-        (("b", None, 1, 1024), None),
-        (("b", None, 1, 2048), Some(Rule::QueueShape)),
-        (("b", None, 1, 96), Some(Rule::QueueShape)),
-    ] {
-        let way = Hotplug::VirtioMem;
-        let config = config_of(alloc, (1, 1), (GIB, GIB, 0), way, &[], &[GOOD, second])?;
-        assert!(rt; rule_of(alloc, config)? == rule, "{second:?}");
+    for (second, rule) in &DISKS {
+        let came = rule_of(rt.alloc(), &config_of_disks(rt.alloc(), second)?)?;
+        assert!(rt; came == *rule, "{} {}", second.0, second.3);
     }
     Ok(())
 }
@@ -233,88 +295,103 @@ fn has_ids(disks: &[DiskConfig], ids: &[&str]) -> bool {
     disks.len() == ids.len() && disks.iter().zip(ids).all(|(disk, id)| has_id(disk, *id))
 }
 
+/// A configuration of 512 MiB and one disk.
+fn focal(alloc: Global) -> Result<VmConfig, AllocError> {
+    config_of(
+        alloc,
+        &(4, 4, 536870912, 0, 0),
+        Hotplug::Acpi,
+        &[],
+        &[("/opt/clh/images/focal.raw", None, 1, 128)],
+    )
+}
+
 #[test]
-fn worked_configurations(rt: HostRuntime) -> Result<(), Fail> {
+fn a_worked_configuration(rt: HostRuntime) -> Result<(), Fail> {
+    let config = focal(rt.alloc())?;
+    let checked = kept(rt.alloc(), &config, &["focal.raw"])?;
+    assert!(rt; has_ids(checked.config.disks.as_slice(), &["_disk0"]));
+    assert!(rt; checked.config.memory == config.memory);
+    let zones = [zone_of(rt.alloc(), &("mem0", 536870912, 0, 0))?];
+    assert!(rt; checked.zones.as_slice() == zones.as_slice());
+    Ok(())
+}
+
+#[test]
+fn worked_refusals(rt: HostRuntime) -> Result<(), Fail> {
     let alloc = rt.alloc();
     let acpi = Hotplug::Acpi;
-    let focal = [("/opt/clh/images/focal.raw", None, 1, 128)];
-    let config = config_of(alloc, (4, 4), (536870912, 0, 0), acpi, &[], &focal)?;
-    match check(alloc, &config, &names_of(alloc, &["focal.raw"])?)? {
-        Ok(checked) => {
-            assert!(rt; has_ids(checked.config.disks.as_slice(), &["_disk0"]));
-            assert!(rt; checked.config.memory == config.memory);
-            let zones = [zone_of(alloc, &("mem0", 536870912, 0, 0))?];
-            assert!(rt; checked.zones.as_slice() == zones.as_slice());
-        }
-        Err(rule) => assert!(rt; false, "{}", rule.name()),
-    }
-    let none = config_of(alloc, (0, 1), (536870912, 0, 0), acpi, &[], &[])?;
-    assert!(rt; rule_of(alloc, none)? == Some(Rule::BootZero));
-    let above = config_of(alloc, (3, 2), (536870912, 0, 0), acpi, &[], &[])?;
-    assert!(rt; rule_of(alloc, above)? == Some(Rule::BootAboveMax));
-    let both = config_of(
-        alloc,
-        (1, 1),
-        (1073741824, 0, 0),
-        acpi,
-        &[("z0", GIB, 0, 0)],
-        &[],
-    )?;
-    assert!(rt; rule_of(alloc, both)? == Some(Rule::ZonesNeedSizeZero));
+    let none = rule_of_sizes(alloc, &(0, 1, 536870912, 0, 0), acpi)?;
+    assert!(rt; none == Some(Rule::BootZero));
+    let above = rule_of_sizes(alloc, &(3, 2, 536870912, 0, 0), acpi)?;
+    assert!(rt; above == Some(Rule::BootAboveMax));
+    let sizes = (1, 1, 1073741824, 0, 0);
+    let both = config_of(alloc, &sizes, acpi, &[("z0", GIB, 0, 0)], &[])?;
+    assert!(rt; rule_of(alloc, &both)? == Some(Rule::ZonesNeedSizeZero));
     Ok(())
+}
+
+const FURTHER: [(Disk<'static>, Option<Rule>); 7] = [
+    (("/c", None, 1, 128), None),
+    (("d", None, 1, 128), Some(Rule::DiskUnknown)),
+    (("/x/b", None, 1, 128), Some(Rule::DiskTwice)),
+    (("c", Some("c.raw"), 1, 128), Some(Rule::DeviceIdBad)),
+    (("c", Some("_disk1"), 1, 128), Some(Rule::DeviceIdTwice)),
+    (("c", Some("_mem_mem0"), 1, 128), Some(Rule::DeviceIdTwice)),
+    (("c", Some("c"), 1, 3), Some(Rule::QueueShape)),
+];
+
+/// Whether a further disk breaks this rule, or gets the id `_disk2` where there is none.
+fn is_answered(
+    alloc: Global,
+    now: &Checked,
+    disk: &Disk,
+    rule: Option<Rule>,
+) -> Result<bool, Fail> {
+    let names = names_of(alloc, &["a", "b", "c"])?;
+    match check_disk(alloc, now, &disk_of(alloc, disk)?, &names)? {
+        Ok(named) => Ok(rule.is_none() && has_id(&named, "_disk2")),
+        Err(broken) => Ok(rule == Some(broken)),
+    }
 }
 
 #[test]
 fn further_disks(rt: HostRuntime) -> Result<(), Fail> {
     let alloc = rt.alloc();
-    let names = names_of(alloc, &["a", "b", "c"])?;
-    let disks = [GOOD, ("b", Some("_disk0"), 1, 128)];
-    let way = Hotplug::VirtioMem;
-    let config = config_of(alloc, (1, 1), (GIB, GIB, 0), way, &[], &disks)?;
-    match check(alloc, &config, &names)? {
-        Ok(now) => {
-            assert!(rt; has_ids(now.config.disks.as_slice(), &["_disk1", "_disk0"]));
-            for (disk, rule) in [
-                (("/c", None, 1, 128), None),
-                (("d", None, 1, 128), Some(Rule::DiskUnknown)),
-                (("/x/b", None, 1, 128), Some(Rule::DiskTwice)),
-                (("c", Some("c.raw"), 1, 128), Some(Rule::DeviceIdBad)),
-                (("c", Some("_disk1"), 1, 128), Some(Rule::DeviceIdTwice)),
-                (("c", Some("_mem_mem0"), 1, 128), Some(Rule::DeviceIdTwice)),
-                (("c", Some("c"), 1, 3), Some(Rule::QueueShape)),
-            ] {
-                match check_disk(alloc, &now, &disk_of(alloc, &disk)?, &names)? {
-                    Ok(named) => assert!(rt; rule.is_none() && has_ids(&[named], &["_disk2"])),
-                    Err(broken) => assert!(rt; Some(broken) == rule, "{}", broken.name()),
-                }
-            }
-        }
-        Err(rule) => assert!(rt; false, "{}", rule.name()),
+    let config = config_of_disks(alloc, &("b", Some("_disk0"), 1, 128))?;
+    let now = kept(alloc, &config, &["a", "b", "c"])?;
+    assert!(rt; has_ids(now.config.disks.as_slice(), &["_disk1", "_disk0"]));
+    for (disk, rule) in &FURTHER {
+        assert!(rt; is_answered(alloc, &now, disk, *rule)?, "{}", disk.0);
     }
     Ok(())
 }
 
+/// The answer to a configuration with so many disks and no memory device.
+fn answer_to_many(alloc: Global, count: usize) -> Result<Result<Checked, Rule>, Fail> {
+    let mut config = config_of(alloc, &(1, 1, GIB, 0, 0), Hotplug::Acpi, &[], &[])?;
+    let mut names = Row::empty(alloc);
+    for k in 0..count {
+        let path = format!(in alloc; "/images/d{k}")?;
+        let disk = disk_of(alloc, &(path.as_str(), None, 1, 128))?;
+        config.disks.push(disk)?;
+        names.push(name(alloc, format!(in alloc; "d{k}")?.as_str())?)?;
+    }
+    Ok(check(alloc, &config, &names)?)
+}
+
+fn last_has_id(checked: &Checked, id: &str) -> bool {
+    match checked.config.disks.as_slice() {
+        [.., last] => has_id(last, id),
+        [] => false,
+    }
+}
+
 #[test]
 fn many_devices(rt: HostRuntime) -> Result<(), Fail> {
-    let alloc = rt.alloc();
-    for (count, rule) in [(31, None), (32, Some(Rule::TooManyDevices))] {
-        let mut config = config_of(alloc, (1, 1), (GIB, 0, 0), Hotplug::Acpi, &[], &[])?;
-        let mut names = Row::empty(alloc);
-        for k in 0..count {
-            let path = format!(in alloc; "/images/d{k}")?;
-            config
-                .disks
-                .push(disk_of(alloc, &(path.as_str(), None, 1, 128))?)?;
-            names.push(name(alloc, format!(in alloc; "d{k}")?.as_str())?)?;
-        }
-        match check(alloc, &config, &names)? {
-            Ok(checked) => {
-                assert!(rt; rule == None);
-                let last = checked.config.disks.as_slice().last();
-                assert!(rt; last.is_some_and(|disk| has_id(disk, "_disk30")));
-            }
-            Err(broken) => assert!(rt; Some(broken) == rule),
-        }
-    }
+    let most = answer_to_many(rt.alloc(), 31)?;
+    assert!(rt; most.is_ok_and(|checked| last_has_id(&checked, "_disk30")));
+    let more = answer_to_many(rt.alloc(), 32)?;
+    assert!(rt; more.err() == Some(Rule::TooManyDevices));
     Ok(())
 }

@@ -1,3 +1,5 @@
+ghost use Rattle.std.specs.Prelude.{◌≡◌, None};
+
 use crate::common::numbers;
 use chv_defs::{Bytes, Row};
 use chv_io::{
@@ -6,7 +8,6 @@ use chv_io::{
 };
 use std::alloc::{AllocError, Global};
 use std::io::{Error, ErrorKind, Read, Write};
-use std::process::Abort;
 use std::test::Fail;
 
 /// Takes pieces of three bytes up to the end or a fault: the bytes, and whether the end came.
@@ -23,18 +24,16 @@ fn drain<S: Source>(alloc: Global, source: &mut S) -> Result<(Vec<u8>, bool), Al
     Ok((all, false))
 }
 
-/// The source gives these bytes, and then its end or a fault. Says how many faults there were.
+/// Whether the source gives these bytes, then its end or a fault, and has had so many faults then.
 fn gives<S: Source>(
-    rt: &impl Abort,
     alloc: Global,
     source: &mut S,
     want: &[u8],
     end: bool,
-) -> Result<u64, AllocError> {
+    faults: u64,
+) -> Result<bool, AllocError> {
     let (bytes, ended) = drain(alloc, source)?;
-    assert!(rt; bytes.as_slice() == want);
-    assert!(rt; ended == end);
-    Ok(source.source_faults())
+    Ok(bytes.as_slice() == want && ended == end && source.source_faults() == faults)
 }
 
 /// Puts three pieces, says for each whether it was taken, and then how many faults there were.
@@ -45,18 +44,24 @@ fn fill<K: Sink>(sink: &mut K) -> ([bool; 3], u64) {
     ([first, second, third], sink.sink_faults())
 }
 
-/// Listens with one connection to give, and then asks for two, and says for each call whether it was answered, and then
-/// how many faults there were. The numbers are those of the calls that fail.
-fn serve(alloc: Global, fail: Row<u64>) -> Result<([bool; 3], u64), AllocError> {
-    let mut links = Vec::new(alloc);
-    links.push(MemLink::new(alloc, Bytes::of(alloc, b"x")?, 1, 0, Row::empty(alloc))?)?;
-    let mut listener = MemListener::new(links, fail);
+/// Listens, and asks for two connections; says for each call whether it was answered, and then how many faults there were.
+fn accept<L: Listener>(listener: &mut L) -> ([bool; 3], u64)
+    requires { L.listens_on listener.old ≡ None }
+{
     if listener.listen(80).is_err() {
-        return Ok(([false; 3], listener.listen_faults()));
+        return ([false; 3], listener.listen_faults());
     }
     let first = listener.accept().is_ok();
     let second = listener.accept().is_ok();
-    Ok(([true, first, second], listener.listen_faults()))
+    ([true, first, second], listener.listen_faults())
+}
+
+/// The same of a listener with one connection to give. The numbers are those of the calls that fail.
+fn serve(alloc: Global, fail: &[u64]) -> Result<([bool; 3], u64), AllocError> {
+    let mut links = Vec::new(alloc);
+    links.push(MemLink::new(alloc, Bytes::of(alloc, b"x")?, 1, 0, Row::empty(alloc))?)?;
+    let mut listener = MemListener::new(links, numbers(alloc, fail)?);
+    Ok(accept(&mut listener))
 }
 
 /// Interrupted, then one byte, then an error.
@@ -99,79 +104,108 @@ impl Write for Narrow {
     }
 }
 
+fn comes_in_three<S: Source>(alloc: Global, source: &mut S) -> Result<bool, AllocError> {
+    Ok(
+        gives(alloc, source, b"hel", false, 1)?
+            && gives(alloc, source, b"", false, 2)?
+            && gives(alloc, source, b"lo", true, 2)?,
+    )
+}
+
 #[test]
 fn source_in_memory(rt: HostRuntime) -> Result<(), Fail> {
     let alloc = rt.alloc();
-    let fail = numbers(alloc, &[2, 3])?;
-    let mut source = MemSource::new(Bytes::of(alloc, b"hello")?, fail);
-    let first = gives(&rt, alloc, &mut source, b"hel", false)?;
-    let second = gives(&rt, alloc, &mut source, b"", false)?;
-    let third = gives(&rt, alloc, &mut source, b"lo", true)?;
-    assert!(rt; (first, second, third) == (1, 2, 2));
+    let mut source = MemSource::new(Bytes::of(alloc, b"hello")?, numbers(alloc, &[2, 3])?);
+    assert!(rt; comes_in_three(alloc, &mut source)?);
     Ok(())
+}
+
+/// Whether an output with so much room, whose call of this number fails (0 is none), takes these of the three pieces, so
+/// that these bytes are written and there is one fault.
+fn takes(
+    alloc: Global,
+    room: usize,
+    fail: u64,
+    pieces: [bool; 3],
+    written: &[u8],
+) -> Result<bool, AllocError> {
+    let mut sink = MemSink::new(alloc, room, numbers(alloc, &[fail])?)?;
+    Ok(fill(&mut sink) == (pieces, 1) && sink.written() == written)
 }
 
 #[test]
 fn sink_in_memory(rt: HostRuntime) -> Result<(), Fail> {
-    let alloc = rt.alloc();
     // Room for five bytes: the second piece would pass it by one.
-    let mut sink = MemSink::new(alloc, 5, Row::empty(alloc))?;
-    assert!(rt; fill(&mut sink) == ([true, false, true], 1));
-    assert!(rt; sink.written() == b"abg".as_slice());
-    let mut sink = MemSink::new(alloc, 100, numbers(alloc, &[3])?)?;
-    assert!(rt; fill(&mut sink) == ([true, true, false], 1));
-    assert!(rt; sink.written() == b"abcdef".as_slice());
+    assert!(rt; takes(rt.alloc(), 5, 0, [true, false, true], b"abg")?);
+    assert!(rt; takes(rt.alloc(), 100, 3, [true, true, false], b"abcdef")?);
     Ok(())
+}
+
+fn reads(link: &mut MemLink) -> bool {
+    let mut buf = [0; 4];
+    read_from(link, &mut buf) == Ok(2) && read_from(link, &mut buf) == Err(Failed)
+}
+
+fn writes(link: &mut MemLink) -> bool {
+    write_to(link, b"abc") == Ok(()) && write_to(link, b"d") == Err(Failed)
+}
+
+fn closes(link: &mut MemLink) -> bool {
+    let was_closed = link.is_closed();
+    link.close();
+    !was_closed && link.is_closed() && link.written() == b"abc".as_slice()
+}
+
+/// A connection that has two of five bytes a read, and room for three.
+fn hello(alloc: Global) -> Result<MemLink, AllocError> {
+    MemLink::new(
+        alloc,
+        Bytes::of(alloc, b"hello")?,
+        2,
+        3,
+        numbers(alloc, &[2])?,
+    )
 }
 
 #[test]
 fn link_in_memory(rt: HostRuntime) -> Result<(), Fail> {
-    let alloc = rt.alloc();
-    let fail = numbers(alloc, &[2])?;
-    let mut link = MemLink::new(alloc, Bytes::of(alloc, b"hello")?, 2, 3, fail)?;
-    let mut buf = [0; 4];
-    assert!(rt; read_from(&mut link, &mut buf) == Ok(2));
-    assert!(rt; read_from(&mut link, &mut buf) == Err(Failed));
-    assert!(rt; write_to(&mut link, b"abc") == Ok(()));
-    assert!(rt; write_to(&mut link, b"d") == Err(Failed));
-    assert!(rt; !link.is_closed());
-    link.close();
-    assert!(rt; link.is_closed());
-    assert!(rt; link.written() == b"abc".as_slice());
-    assert!(rt; gives(&rt, alloc, &mut link, b"llo", true)? == 2);
+    let mut link = hello(rt.alloc())?;
+    assert!(rt; reads(&mut link) && writes(&mut link) && closes(&mut link));
+    assert!(rt; gives(rt.alloc(), &mut link, b"llo", true, 2)?);
     Ok(())
 }
 
 #[test]
 fn listener_in_memory(rt: HostRuntime) -> Result<(), Fail> {
-    let alloc = rt.alloc();
     // The second asks where no connection is left.
-    assert!(rt; serve(alloc, Row::empty(alloc))? == ([true, true, false], 1));
-    assert!(rt; serve(alloc, numbers(alloc, &[1])?)? == ([false, false, false], 1));
+    assert!(rt; serve(rt.alloc(), &[])? == ([true, true, false], 1));
+    assert!(rt; serve(rt.alloc(), &[1])? == ([false, false, false], 1));
     // A listed call leaves the connection for the next.
-    assert!(rt; serve(alloc, numbers(alloc, &[2])?)? == ([true, false, true], 1));
+    assert!(rt; serve(rt.alloc(), &[2])? == ([true, false, true], 1));
     Ok(())
 }
 
 #[test]
 fn source_over_a_reader(rt: HostRuntime) -> Result<(), Fail> {
-    let alloc = rt.alloc();
     let mut source = StdSource::new(b"hello".as_slice());
-    assert!(rt; gives(&rt, alloc, &mut source, b"hello", true)? == 0);
+    assert!(rt; gives(rt.alloc(), &mut source, b"hello", true, 0)?);
     // An interrupted read is tried again, and an error is a fault and no end.
     let mut source = StdSource::new(Shaky { calls: 0 });
-    assert!(rt; gives(&rt, alloc, &mut source, b"x", false)? == 1);
+    assert!(rt; gives(rt.alloc(), &mut source, b"x", false, 1)?);
     Ok(())
 }
 
 #[test]
 fn sink_over_a_writer(rt: HostRuntime) -> Result<(), Fail> {
-    let alloc = rt.alloc();
-    let mut written = Vec::new(alloc);
+    let mut written = Vec::new(rt.alloc());
     let mut sink = StdSink::new(&mut written);
     assert!(rt; fill(&mut sink) == ([true, true, true], 0));
     assert!(rt; written.as_slice() == b"abcdefg".as_slice());
-    // A writer that takes nothing is a fault.
+    Ok(())
+}
+
+#[test]
+fn sink_over_a_writer_that_takes_nothing(rt: HostRuntime) -> Result<(), Fail> {
     let mut sink = StdSink::new(Narrow { left: 4 });
     assert!(rt; fill(&mut sink) == ([true, false, false], 2));
     Ok(())

@@ -1,61 +1,93 @@
 // Reads and writes across the edges of pages, and pages that are filled, cleared and listed.
-use chv_defs::{Bytes, PageAt};
+ghost use Rattle.std.specs.Prelude.{◌≡◌, ◌+◌, ◌<◌, ◌≤◌, IfOk, length};
+
+use chv_defs::PageAt;
 use chv_pages::Pages;
 use std::alloc::{AllocError, Global};
 use std::test::Fail;
 
-/// A page that is zero but for one byte.
-fn page_with(alloc: Global, at: usize, byte: u8) -> Result<Vec<u8>, AllocError> {
-    let mut bytes = vec![in alloc; 0; 4096]?;
-    if at < bytes.len() {
-        bytes[at] = byte;
-    }
-    Ok(bytes)
+/// A page that is zero but for one byte: its block, its number, and where which byte stands.
+type Page = (u32, u16, usize, u8);
+
+fn is_page(page: &PageAt, want: &Page) -> bool {
+    page.block == want.0
+        && page.page == want.1
+        && page.bytes.len() == 4096
+        && is_zero_but(page.bytes.as_slice(), want.2, want.3)
 }
 
-fn listed(alloc: Global, block: u32, page: u16, at: usize, byte: u8) -> Result<PageAt, AllocError> {
-    Ok(PageAt {
-        block,
-        page,
-        bytes: Bytes::new(page_with(alloc, at, byte)?),
-    })
+fn is_zero_but(bytes: &[u8], at: usize, byte: u8) -> bool {
+    bytes
+        .iter()
+        .enumerate()
+        .all(|(k, b)| *b == if k == at { byte } else { 0 })
 }
+
+/// Whether these pages are listed and no others.
+fn lists(memory: &Pages, pages: &[Page]) -> Result<bool, AllocError> {
+    let listed = memory.list()?;
+    Ok(
+        listed.len() == pages.len()
+            && listed
+                .as_slice()
+                .iter()
+                .zip(pages)
+                .all(|(page, want)| is_page(page, want)),
+    )
+}
+
+/// Whether four bytes stand from an offset on.
+fn has_four(memory: &Pages, block: u32, offset: u32, four: [u8; 4]) -> bool
+    requires block { block < memory.now.blocks }
+    requires inside { offset + 4 ≤ 2097152 }
+{
+    let mut read = [9; 4];
+    memory.read(block, offset, &mut read);
+    read == four
+}
+
+fn write(memory: &mut Pages) -> Result<(), AllocError>
+    requires { memory.old.blocks ≡ 2 }
+    ensures { IfOk result (λ _. memory.new.blocks ≡ 2) }
+{
+    memory.write(1, 4_095, &[1, 2])?;
+    memory.write(0, 2_097_151, &[3])?;
+    memory.write(0, 8_192, &[0, 0])
+}
+
+const WRITTEN: [Page; 3] = [(0, 511, 4_095, 3), (1, 0, 4_095, 1), (1, 1, 0, 2)];
 
 #[test]
 fn contents(rt: HostRuntime) -> Result<(), Fail> {
-    let alloc = rt.alloc();
-    let mut memory = Pages::new(alloc, 2)?;
-    let mut four = [9; 4];
-    memory.read(1, 2_097_148, &mut four);
-    assert!(rt; four == [0, 0, 0, 0]);
-    memory.write(1, 4_095, &[1, 2])?;
-    memory.write(0, 2_097_151, &[3])?;
-    memory.write(0, 8_192, &[0, 0])?;
-    memory.read(1, 4_094, &mut four);
-    assert!(rt; four == [0, 1, 2, 0]);
-    let first = listed(alloc, 0, 511, 4_095, 3)?;
-    let second = listed(alloc, 1, 0, 4_095, 1)?;
-    let third = listed(alloc, 1, 1, 0, 2)?;
-    assert!(rt; memory.list()?.as_slice() == [first, second, third].as_slice());
+    let mut memory = Pages::new(rt.alloc(), 2)?;
+    assert!(rt; has_four(&memory, 1, 2_097_148, [0, 0, 0, 0]));
+    write(&mut memory)?;
+    assert!(rt; has_four(&memory, 1, 4_094, [0, 1, 2, 0]));
+    assert!(rt; lists(&memory, &WRITTEN)?);
     memory.clear_block(1);
-    memory.read(1, 4_094, &mut four);
-    assert!(rt; four == [0, 0, 0, 0]);
+    assert!(rt; has_four(&memory, 1, 4_094, [0, 0, 0, 0]));
     assert!(rt; memory.list()?.len() == 1);
+    Ok(())
+}
+
+/// Fills a page with a byte among zeros.
+fn fill(alloc: Global, memory: &mut Pages) -> Result<(), AllocError>
+    requires { memory.old.blocks ≡ 1 }
+    ensures { IfOk result (λ _. memory.new.blocks ≡ 1) }
+{
+    let mut bytes = vec![in alloc; 0; 4096]?;
+    bytes[7] = 5;
+    memory.reserve(2)?;
+    memory.fill(0, 3, bytes.as_slice());
     Ok(())
 }
 
 #[test]
 fn reserved_pages(rt: HostRuntime) -> Result<(), Fail> {
-    let alloc = rt.alloc();
-    let mut memory = Pages::new(alloc, 1)?;
-    memory.reserve(2)?;
-    let bytes = page_with(alloc, 7, 5)?;
-    assert!(rt; bytes.len() == 4096);
-    memory.fill(0, 3, bytes.as_slice());
-    let mut one = [0];
-    memory.read(0, 12_295, &mut one);
-    assert!(rt; one == [5]);
+    let mut memory = Pages::new(rt.alloc(), 1)?;
+    fill(rt.alloc(), &mut memory)?;
+    assert!(rt; has_four(&memory, 0, 12_295, [5, 0, 0, 0]));
     memory.release();
-    assert!(rt; memory.list()?.as_slice() == [listed(alloc, 0, 3, 7, 5)?].as_slice());
+    assert!(rt; lists(&memory, &[(0, 3, 7, 5)])?);
     Ok(())
 }

@@ -16,45 +16,47 @@ fn is_alone(alloc: Global, block: u32) -> Result<bool, AllocError> {
     Ok(is_found && set.ranges()?.as_slice() == [alone].as_slice())
 }
 
+const BLOCKS: [u32; 5] = [0, 63, 64, 65, 32_767];
+
 #[test]
 fn sets_of_one_block(rt: HostRuntime) -> Result<(), Fail> {
-    for block in [0, 63, 64, 65, 32_767] {
-        assert!(rt; is_alone(rt.alloc(), block)?, "{block}");
+    for block in &BLOCKS {
+        assert!(rt; is_alone(rt.alloc(), *block)?, "{block}");
     }
     Ok(())
+}
+
+const RUN: Span = Span {
+    first: 63,
+    count: 3,
+};
+
+fn has_run_alone(set: &BlockSet) -> bool {
+    set.has(63)
+        && set.has(65)
+        && !set.has(62)
+        && !set.has(66)
+        && !set.has(32_768)
+        && set.count() == 3
 }
 
 #[test]
 fn a_run_across_the_edge_of_a_word(rt: HostRuntime) -> Result<(), Fail> {
     let mut set = BlockSet::new(rt.alloc(), 32_768)?;
-    set.insert_range(Span {
-        first: 63,
-        count: 3,
-    });
-    assert!(rt; set.has(63) && set.has(65));
-    assert!(rt; !set.has(62) && !set.has(66) && !set.has(32_768));
-    assert!(rt; set.count() == 3);
-    let runs = set.ranges()?;
-    assert!(rt;
-        runs.as_slice()
-            == [Span {
-                first: 63,
-                count: 3
-            }]
-            .as_slice()
-    );
+    set.insert_range(RUN);
+    assert!(rt; has_run_alone(&set));
+    assert!(rt; set.ranges()?.as_slice() == [RUN].as_slice());
     Ok(())
 }
 
 #[test]
 fn nothing_is_left_of_an_empty_set(rt: HostRuntime) -> Result<(), Fail> {
     let mut set = BlockSet::new(rt.alloc(), 32_768)?;
-    assert!(rt;
-        set.first_in(Span {
-            first: 0,
-            count: 64
-        }) == None
-    );
+    let word = Span {
+        first: 0,
+        count: 64,
+    };
+    assert!(rt; set.first_in(word) == None);
     set.remove_range(Span {
         first: 0,
         count: 32_768,

@@ -1,5 +1,5 @@
 use crate::common::numbers;
-use chv_io::{Disk, Failed};
+use chv_io::Disk;
 use chv_store::{AnyDisk, MemDisk};
 use std::alloc::{AllocError, Global};
 use std::test::Fail;
@@ -7,46 +7,57 @@ use std::test::Fail;
 /// A sector of one byte's copies.
 const ONES: [u8; 512] = [1; 512];
 
-/// Writes ones to a sector and reads it and the next one: the three answers, and the last bytes that were read.
-fn write_and_read<D: Disk>(disk: &mut D) -> ([bool; 3], u8, u8) {
+/// Whether each call was done, the last bytes of the sectors that were read, and how many faults there were.
+type Came = ([bool; 4], [u8; 2], u64);
+
+/// Writes ones to a sector, reads it and the next one, and flushes.
+fn work<D: Disk>(disk: &mut D) -> Came {
     if disk.sectors() < 3 {
-        return ([false; 3], 0, 0);
+        return ([false; 4], [0; 2], 0);
     }
     let mut here = [0; 512];
     let mut next = [2; 512];
     let wrote = disk.write(1, &ONES).is_ok();
     let read = disk.read(1, &mut here).is_ok();
     let read_next = disk.read(2, &mut next).is_ok();
-    ([wrote, read, read_next], here[511], next[511])
+    let flushed = disk.flush().is_ok();
+    (
+        [wrote, read, read_next, flushed],
+        [here[511], next[511]],
+        disk.disk_faults(),
+    )
 }
 
-/// A disk of zeros, whose calls of these numbers fail.
-fn blank(alloc: Global, fail: &[u64]) -> Result<MemDisk, AllocError> {
-    MemDisk::new(alloc, 3, numbers(alloc, fail)?)
+/// What comes of a disk of zeros, whose calls of these numbers fail.
+fn came(alloc: Global, fail: &[u64]) -> Result<Came, AllocError> {
+    let mut disk = MemDisk::new(alloc, 3, numbers(alloc, fail)?)?;
+    Ok(work(&mut disk))
+}
+
+/// What comes of the same disk as one of two kinds.
+fn came_of_either(alloc: Global, is_made: bool, fail: &[u64]) -> Result<Came, AllocError> {
+    let disk = MemDisk::new(alloc, 3, numbers(alloc, fail)?)?;
+    let mut disk: AnyDisk<MemDisk> = if is_made {
+        AnyDisk::Made(disk)
+    } else {
+        AnyDisk::Given(disk)
+    };
+    Ok(work(&mut disk))
 }
 
 #[test]
 fn disk_in_memory(rt: HostRuntime) -> Result<(), Fail> {
-    let mut disk = blank(rt.alloc(), &[])?;
-    assert!(rt; write_and_read(&mut disk) == ([true, true, true], 1, 0));
-    assert!(rt; disk.flush() == Ok(()));
-    assert!(rt; disk.disk_faults() == 0);
+    assert!(rt; came(rt.alloc(), &[])? == ([true; 4], [1, 0], 0));
     // The write fails and leaves zeros.
-    let mut disk = blank(rt.alloc(), &[1, 4])?;
-    assert!(rt; write_and_read(&mut disk) == ([false, true, true], 0, 0));
-    assert!(rt; disk.flush() == Err(Failed));
-    assert!(rt; disk.disk_faults() == 2);
+    assert!(rt; came(rt.alloc(), &[1, 4])? == ([false, true, true, false], [0, 0], 2));
     Ok(())
 }
 
 #[test]
 fn disk_of_either_kind(rt: HostRuntime) -> Result<(), Fail> {
-    let mut given: AnyDisk<MemDisk> = AnyDisk::Given(blank(rt.alloc(), &[3])?);
-    assert!(rt; write_and_read(&mut given) == ([true, true, false], 1, 2));
-    assert!(rt; given.flush() == Ok(()));
-    assert!(rt; given.disk_faults() == 1);
-    let mut made: AnyDisk<MemDisk> = AnyDisk::Made(blank(rt.alloc(), &[])?);
-    assert!(rt; write_and_read(&mut made) == ([true, true, true], 1, 0));
-    assert!(rt; made.disk_faults() == 0);
+    let given = came_of_either(rt.alloc(), false, &[3])?;
+    assert!(rt; given == ([true, true, false, true], [1, 2], 1));
+    let made = came_of_either(rt.alloc(), true, &[])?;
+    assert!(rt; made == ([true; 4], [1, 0], 0));
     Ok(())
 }
