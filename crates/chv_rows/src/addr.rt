@@ -53,10 +53,10 @@ fn config_of(alloc: Global, zones: &[Zone]) -> Result<VmConfig, AllocError> {
     Ok(config)
 }
 
-fn checked_of(alloc: Global, zones: &[Zone]) -> Result<Checked, Fail>
+fn checked(alloc: Global, config: &VmConfig) -> Result<Checked, Fail>
     ensures { IfOk result (λ checked. is_within_limits checked.zones ≡ true) }
 {
-    match check(alloc, &config_of(alloc, zones)?, &Row::empty(alloc))? {
+    match check(alloc, config, &Row::empty(alloc))? {
         Ok(checked) => {
             checked_zones_fit(&checked);
             Ok(checked)
@@ -65,14 +65,25 @@ fn checked_of(alloc: Global, zones: &[Zone]) -> Result<Checked, Fail>
     }
 }
 
+fn checked_of(alloc: Global, zones: &[Zone]) -> Result<Checked, Fail>
+    ensures { IfOk result (λ checked. is_within_limits checked.zones ≡ true) }
+{
+    checked(alloc, &config_of(alloc, zones)?)
+}
+
+fn map_of(alloc: Global, zones: &[Zone]) -> Result<AddrMap, Fail> {
+    Ok(AddrMap::build(alloc, &checked_of(alloc, zones)?)?)
+}
+
+fn finds_all(map: &AddrMap, wanted: &[LookUp]) -> bool {
+    wanted
+        .iter()
+        .all(|look_up| map.find(look_up.0, look_up.1) == look_up.2)
+}
+
 /// Whether all look-ups in the map of some zones find these places.
 fn finds(alloc: Global, zones: &[Zone], wanted: &[LookUp]) -> Result<bool, Fail> {
-    let map = AddrMap::build(alloc, &checked_of(alloc, zones)?)?;
-    Ok(
-        wanted
-            .iter()
-            .all(|look_up| map.find(look_up.0, look_up.1) == look_up.2),
-    )
+    Ok(finds_all(&map_of(alloc, zones)?, wanted))
 }
 
 const WORKED: [LookUp; 5] = [
@@ -209,33 +220,34 @@ const PLUGGED: [LookUp; 6] = [
     (0x1_b820_0000, 1, Place::Hole),
 ];
 
+const EIGHT: [Zone; 8] = [(512 * MIB, 0); 8];
+
+const EIGHT_THAT_GROW: [Zone; 8] = [(512 * MIB, 130 * MIB); 8];
+
 #[test]
 fn edges_of_eight_zones(rt: HostRuntime) -> Result<(), Fail> {
-    let alloc = rt.alloc();
-    assert!(rt; finds(alloc, &[(512 * MIB, 0); 8], &BOOT)?);
-    assert!(rt;
-        finds(
-            alloc,
-            &[(512 * MIB, 0); 8],
-            &[(0x1_4000_0000, 1, Place::Hole)]
-        )?
-    );
-    assert!(rt; finds(alloc, &[(512 * MIB, 130 * MIB); 8], &BOOT)?);
-    assert!(rt; finds(alloc, &[(512 * MIB, 130 * MIB); 8], &PLUGGED)?);
+    assert!(rt; finds(rt.alloc(), &EIGHT, &BOOT)?);
+    assert!(rt; finds(rt.alloc(), &EIGHT, &[(0x1_4000_0000, 1, Place::Hole)])?);
+    assert!(rt; finds(rt.alloc(), &EIGHT_THAT_GROW, &BOOT)?);
+    assert!(rt; finds(rt.alloc(), &EIGHT_THAT_GROW, &PLUGGED)?);
     Ok(())
 }
 
 /// Three zones, of which the second does not grow.
 const THREE: [Zone; 3] = [(3 * GIB + 2 * MIB, 4 * MIB), (2 * MIB, 0), (GIB, 64 * MIB)];
 
-/// The hotplug region of one of them.
-fn region_of(alloc: Global, zone: u8) -> Result<Option<Region>, Fail> {
-    let checked = checked_of(alloc, &THREE)?;
+fn region_in(alloc: Global, checked: &Checked, zone: u8) -> Result<Option<Region>, AllocError>
+    requires { is_within_limits checked.now.zones ≡ true }
+{
     if usize::from(zone) >= checked.zones.len() {
         return Ok(None);
     }
-    let map = AddrMap::build(alloc, &checked)?;
-    Ok(Some(map.region(zone)))
+    Ok(Some(AddrMap::build(alloc, checked)?.region(zone)))
+}
+
+/// The hotplug region of one of them.
+fn region_of(alloc: Global, zone: u8) -> Result<Option<Region>, Fail> {
+    Ok(region_in(alloc, &checked_of(alloc, &THREE)?, zone)?)
 }
 
 #[test]

@@ -45,6 +45,20 @@ fn disk_of(alloc: Global, disk: &Disk) -> Result<DiskConfig, AllocError> {
     })
 }
 
+fn push_zones(alloc: Global, row: &mut Row<ZoneConfig>, zones: &[Zone]) -> Result<(), AllocError> {
+    for zone in zones {
+        row.push(zone_of(alloc, zone)?)?;
+    }
+    Ok(())
+}
+
+fn push_disks(alloc: Global, row: &mut Row<DiskConfig>, disks: &[Disk]) -> Result<(), AllocError> {
+    for disk in disks {
+        row.push(disk_of(alloc, disk)?)?;
+    }
+    Ok(())
+}
+
 fn config_of(
     alloc: Global,
     sizes: &Sizes,
@@ -61,12 +75,8 @@ fn config_of(
     config.memory.hotplug = sizes.3;
     config.memory.hotplugged = sizes.4;
     config.memory.way = way;
-    for zone in zones {
-        config.memory.zones.push(zone_of(alloc, zone)?)?;
-    }
-    for disk in disks {
-        config.disks.push(disk_of(alloc, disk)?)?;
-    }
+    push_zones(alloc, &mut config.memory.zones, zones)?;
+    push_disks(alloc, &mut config.disks, disks)?;
     Ok(config)
 }
 
@@ -223,13 +233,21 @@ fn zones(rt: HostRuntime) -> Result<(), Fail> {
     Ok(())
 }
 
-fn rule_of_many_zones(alloc: Global, count: usize) -> Result<Option<Rule>, Fail> {
-    let mut config = config_of(alloc, &(1, 1, 0, 0, 0), Hotplug::VirtioMem, &[], &[])?;
+fn push_many_zones(
+    alloc: Global,
+    row: &mut Row<ZoneConfig>,
+    count: usize,
+) -> Result<(), AllocError> {
     for k in 0..count {
         let id = format!(in alloc; "z{k}")?;
-        let zone = zone_of(alloc, &(id.as_str(), 2 * MIB, 2 * MIB, 0))?;
-        config.memory.zones.push(zone)?;
+        row.push(zone_of(alloc, &(id.as_str(), 2 * MIB, 2 * MIB, 0))?)?;
     }
+    Ok(())
+}
+
+fn rule_of_many_zones(alloc: Global, count: usize) -> Result<Option<Rule>, Fail> {
+    let mut config = config_of(alloc, &(1, 1, 0, 0, 0), Hotplug::VirtioMem, &[], &[])?;
+    push_many_zones(alloc, &mut config.memory.zones, count)?;
     rule_of(alloc, &config)
 }
 
@@ -274,10 +292,14 @@ fn config_of_disks(alloc: Global, second: &Disk) -> Result<VmConfig, AllocError>
     )
 }
 
+fn rule_of_disks(alloc: Global, second: &Disk) -> Result<Option<Rule>, Fail> {
+    rule_of(alloc, &config_of_disks(alloc, second)?)
+}
+
 #[test]
 fn disks(rt: HostRuntime) -> Result<(), Fail> {
     for (second, rule) in &DISKS {
-        let came = rule_of(rt.alloc(), &config_of_disks(rt.alloc(), second)?)?;
+        let came = rule_of_disks(rt.alloc(), second)?;
         assert!(rt; came == *rule, "{} {}", second.0, second.3);
     }
     Ok(())
@@ -306,14 +328,26 @@ fn focal(alloc: Global) -> Result<VmConfig, AllocError> {
     )
 }
 
+fn is_zone(zone: &ZoneConfig, id: &str, size: u64) -> bool {
+    zone.id.as_str() == id && zone.size == size && zone.hotplug == 0 && zone.hotplugged == 0
+}
+
+/// Whether a configuration is kept with its memory as it is, and with one zone and one disk.
+fn is_kept(config: &VmConfig, checked: &Checked) -> bool {
+    has_ids(checked.config.disks.as_slice(), &["_disk0"])
+        && checked.config.memory == config.memory
+        && checked.zones.len() == 1
+        && is_zone(&checked.zones.as_slice()[0], "mem0", 536870912)
+}
+
+fn keeps(alloc: Global, config: &VmConfig) -> Result<bool, Fail> {
+    Ok(is_kept(config, &kept(alloc, config, &["focal.raw"])?))
+}
+
 #[test]
 fn a_worked_configuration(rt: HostRuntime) -> Result<(), Fail> {
     let config = focal(rt.alloc())?;
-    let checked = kept(rt.alloc(), &config, &["focal.raw"])?;
-    assert!(rt; has_ids(checked.config.disks.as_slice(), &["_disk0"]));
-    assert!(rt; checked.config.memory == config.memory);
-    let zones = [zone_of(rt.alloc(), &("mem0", 536870912, 0, 0))?];
-    assert!(rt; checked.zones.as_slice() == zones.as_slice());
+    assert!(rt; keeps(rt.alloc(), &config)?);
     Ok(())
 }
 
@@ -341,6 +375,21 @@ const FURTHER: [(Disk<'static>, Option<Rule>); 7] = [
     (("c", Some("c"), 1, 3), Some(Rule::QueueShape)),
 ];
 
+/// The configuration of the disks `a` and `b`, which is kept.
+fn two_disks(alloc: Global) -> Result<Checked, Fail> {
+    let config = config_of_disks(alloc, &("b", Some("_disk0"), 1, 128))?;
+    kept(alloc, &config, &["a", "b", "c"])
+}
+
+fn answer_to(
+    alloc: Global,
+    now: &Checked,
+    disk: &DiskConfig,
+) -> Result<Result<DiskConfig, Rule>, Fail> {
+    let names = names_of(alloc, &["a", "b", "c"])?;
+    Ok(check_disk(alloc, now, disk, &names)?)
+}
+
 /// Whether a further disk breaks this rule, or gets the id `_disk2` where there is none.
 fn is_answered(
     alloc: Global,
@@ -348,36 +397,56 @@ fn is_answered(
     disk: &Disk,
     rule: Option<Rule>,
 ) -> Result<bool, Fail> {
-    let names = names_of(alloc, &["a", "b", "c"])?;
-    match check_disk(alloc, now, &disk_of(alloc, disk)?, &names)? {
+    match answer_to(alloc, now, &disk_of(alloc, disk)?)? {
         Ok(named) => Ok(rule.is_none() && has_id(&named, "_disk2")),
         Err(broken) => Ok(rule == Some(broken)),
     }
 }
 
+fn are_answered(alloc: Global, now: &Checked) -> Result<bool, Fail> {
+    for (disk, rule) in &FURTHER {
+        if !is_answered(alloc, now, disk, *rule)? {
+            return Ok(false);
+        }
+    }
+    Ok(true)
+}
+
 #[test]
 fn further_disks(rt: HostRuntime) -> Result<(), Fail> {
-    let alloc = rt.alloc();
-    let config = config_of_disks(alloc, &("b", Some("_disk0"), 1, 128))?;
-    let now = kept(alloc, &config, &["a", "b", "c"])?;
+    let now = two_disks(rt.alloc())?;
     assert!(rt; has_ids(now.config.disks.as_slice(), &["_disk1", "_disk0"]));
-    for (disk, rule) in &FURTHER {
-        assert!(rt; is_answered(alloc, &now, disk, *rule)?, "{}", disk.0);
+    assert!(rt; are_answered(rt.alloc(), &now)?);
+    Ok(())
+}
+
+fn push_many_disks(
+    alloc: Global,
+    row: &mut Row<DiskConfig>,
+    count: usize,
+) -> Result<(), AllocError> {
+    for k in 0..count {
+        let path = format!(in alloc; "/images/d{k}")?;
+        row.push(disk_of(alloc, &(path.as_str(), None, 1, 128))?)?;
     }
     Ok(())
+}
+
+/// The names of these disks.
+fn many_names(alloc: Global, count: usize) -> Result<Row<Name>, Fail> {
+    let mut names = Row::empty(alloc);
+    for k in 0..count {
+        let text = format!(in alloc; "d{k}")?;
+        names.push(name(alloc, text.as_str())?)?;
+    }
+    Ok(names)
 }
 
 /// The answer to a configuration with so many disks and no memory device.
 fn answer_to_many(alloc: Global, count: usize) -> Result<Result<Checked, Rule>, Fail> {
     let mut config = config_of(alloc, &(1, 1, GIB, 0, 0), Hotplug::Acpi, &[], &[])?;
-    let mut names = Row::empty(alloc);
-    for k in 0..count {
-        let path = format!(in alloc; "/images/d{k}")?;
-        let disk = disk_of(alloc, &(path.as_str(), None, 1, 128))?;
-        config.disks.push(disk)?;
-        names.push(name(alloc, format!(in alloc; "d{k}")?.as_str())?)?;
-    }
-    Ok(check(alloc, &config, &names)?)
+    push_many_disks(alloc, &mut config.disks, count)?;
+    Ok(check(alloc, &config, &many_names(alloc, count)?)?)
 }
 
 fn last_has_id(checked: &Checked, id: &str) -> bool {

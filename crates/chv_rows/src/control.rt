@@ -30,6 +30,18 @@ fn disks(alloc: Global) -> Result<Vec<(Name, AnyDisk<MemDisk>)>, Fail> {
     Ok(disks)
 }
 
+// A case is played on a control value that it is lent, of two sessions, to which nothing happened yet, and says whether all
+// came as it should. Its proof is short where the value is lent.
+fn comes<F: FnOnce(Global, &mut Control<MemDisk>) -> Result<bool, Fail>>(
+    alloc: Global,
+    case: F,
+) -> Result<bool, Fail>
+    requires { F.IsAlwaysCallable case }
+{
+    let mut control = fresh(alloc)?;
+    case(alloc, &mut control)
+}
+
 fn fresh(alloc: Global) -> Result<Control<MemDisk>, Fail> {
     let start = Start {
         disks: disks(alloc)?,
@@ -57,20 +69,40 @@ fn is_answered(
     }
 }
 
+// Creates a machine, and whether it is done.
+fn creates(alloc: Global, control: &mut Control<MemDisk>) -> Result<bool, Fail> {
+    let create = ControlCall::Create(config(alloc)?);
+    Ok(is_answered(control, 1, &create, &ControlReply::Done)?)
+}
+
+// Whether another one is refused.
+fn creates_no_other(alloc: Global, control: &mut Control<MemDisk>) -> Result<bool, Fail> {
+    let create = ControlCall::Create(config(alloc)?);
+    let again = ControlReply::Ruled(Rule::AlreadyCreated);
+    Ok(is_answered(control, 2, &create, &again)?)
+}
+
+fn does_not_pause(control: &mut Control<MemDisk>) -> Result<bool, Fail> {
+    let pause = ControlCall::Begin(Goal::Pause);
+    let still = ControlReply::Ruled(Rule::NotRunning);
+    Ok(is_answered(control, 1, &pause, &still)?)
+}
+
+fn created_once(alloc: Global, control: &mut Control<MemDisk>) -> Result<bool, Fail> {
+    Ok(creates(alloc, control)? && creates_no_other(alloc, control)? && does_not_pause(control)?)
+}
+
+// Whether a control value falls into so many entries, two sessions and one disk.
+fn falls_into(control: Control<MemDisk>, entries: usize) -> bool {
+    let (history, start) = control.into_parts();
+    history.len() == entries && start.sessions == 2 && start.disks.len() == 1
+}
+
 #[test]
 fn a_machine_is_created_once(rt: HostRuntime) -> Result<(), Fail> {
     let mut control = fresh(rt.alloc())?;
-    let create = ControlCall::Create(config(rt.alloc())?);
-    assert!(rt; is_answered(&mut control, 1, &create, &ControlReply::Done)?);
-    let again = ControlReply::Ruled(Rule::AlreadyCreated);
-    assert!(rt; is_answered(&mut control, 2, &create, &again)?);
-    let pause = ControlCall::Begin(Goal::Pause);
-    let still = ControlReply::Ruled(Rule::NotRunning);
-    assert!(rt; is_answered(&mut control, 1, &pause, &still)?);
-    let (history, start) = control.into_parts();
-    assert!(rt; history.len() == 3);
-    assert!(rt; start.sessions == 2);
-    assert!(rt; start.disks.len() == 1);
+    assert!(rt; created_once(rt.alloc(), &mut control)?);
+    assert!(rt; falls_into(control, 3));
     refusals_change_nothing();
     Ok(())
 }
@@ -85,18 +117,21 @@ fn first_id_is(info: &Info, id: &str) -> bool {
     }
 }
 
+fn shows(control: &mut Control<MemDisk>, id: &str) -> Result<bool, Fail> {
+    match control.apply(2, &ControlCall::Info)? {
+        Ok(ControlReply::Shown(info)) => Ok(first_id_is(&info, id)),
+        _ => Ok(false),
+    }
+}
+
+fn known(alloc: Global, control: &mut Control<MemDisk>) -> Result<bool, Fail> {
+    Ok(creates(alloc, control)? && shows(control, "_disk0")?)
+}
+
 #[test]
 fn a_disk_that_stands_by_is_known(rt: HostRuntime) -> Result<(), Fail> {
-    let mut control = fresh(rt.alloc())?;
-    let create = ControlCall::Create(config(rt.alloc())?);
-    assert!(rt; is_answered(&mut control, 1, &create, &ControlReply::Done)?);
-    match control.apply(2, &ControlCall::Info)? {
-        Ok(ControlReply::Shown(info)) => {
-            assert!(rt; first_id_is(&info, "_disk0"));
-            Ok(())
-        }
-        _ => Err(Fail::from("not shown")),
-    }
+    assert!(rt; comes(rt.alloc(), known)?);
+    Ok(())
 }
 
 // So many Pings of a session; whether each was answered.
@@ -118,18 +153,27 @@ fn stops(control: &mut Control<MemDisk>) -> Result<bool, AllocError> {
     Ok(answer == Ok(ControlReply::Done))
 }
 
-#[test]
-fn a_full_book_keeps_a_place_for_the_stop(rt: HostRuntime) -> Result<(), Fail> {
-    let mut control = fresh(rt.alloc())?;
-    assert!(rt; ping(&mut control, 1048575)?);
+// Whether the book is full at so many entries and no bytes.
+fn is_full(control: &mut Control<MemDisk>, entries: u64) -> Result<bool, Fail> {
     let full = Full {
         book: BookId::Control,
-        entries: 1048576,
+        entries,
         bytes: 0,
     };
-    let refused = control.apply(1, &ControlCall::Ping)?;
-    assert!(rt; refused == Err(Inner::Full(full)));
-    assert!(rt; stops(&mut control)?);
-    assert!(rt; control.history().len() == 1048576);
+    Ok(control.apply(1, &ControlCall::Ping)? == Err(Inner::Full(full)))
+}
+
+fn filled_up(_alloc: Global, control: &mut Control<MemDisk>) -> Result<bool, Fail> {
+    Ok(
+        ping(control, 1048575)?
+            && is_full(control, 1048576)?
+            && stops(control)?
+            && control.history().len() == 1048576,
+    )
+}
+
+#[test]
+fn a_full_book_keeps_a_place_for_the_stop(rt: HostRuntime) -> Result<(), Fail> {
+    assert!(rt; comes(rt.alloc(), filled_up)?);
     Ok(())
 }

@@ -1,6 +1,6 @@
 // What no clause says by itself: in which order the sessions take their turns, and how they end.
 use chv_control::Start;
-use chv_defs::{Asked, Bytes, ControlEntry, Row, SessionEnd, SessionTrace, Text};
+use chv_defs::{Asked, Bytes, ControlEntry, Row, SessionEnd, SessionTrace, Text, Trace};
 use chv_play::play;
 use chv_store::MemDisk;
 use std::alloc::{AllocError, Global};
@@ -40,21 +40,28 @@ fn ends_are(sessions: &[SessionTrace], first: SessionEnd, second: SessionEnd) ->
     }
 }
 
+// Whether two sessions took turns, and the first ended so.
+fn took_turns(trace: &Trace, end: SessionEnd) -> bool {
+    callers_are(trace.control.as_slice(), 1, 2)
+        && ends_are(trace.sessions.as_slice(), end, SessionEnd::Ended)
+}
+
 // Plays two sessions, and says whether they took turns and ended so.
-fn take_turns(alloc: Global, first: Asked, end: SessionEnd) -> Result<bool, AllocError> {
-    let sessions = [one(alloc, first)?, one(alloc, ping(alloc)?)?];
+fn play_two(alloc: Global, sessions: &[Row<Asked>; 2], end: SessionEnd) -> bool {
     let start: Start<MemDisk> = Start {
         disks: Vec::new(alloc),
         sessions: 2,
     };
-    let played = play(alloc, start, &sessions);
+    let played = play(alloc, start, sessions);
     match &played.trace {
-        Some(trace) => Ok(
-            callers_are(trace.control.as_slice(), 1, 2)
-                && ends_are(trace.sessions.as_slice(), end, SessionEnd::Ended),
-        ),
-        None => Ok(false),
+        Some(trace) => took_turns(trace, end),
+        None => false,
     }
+}
+
+fn take_turns(alloc: Global, first: Asked, end: SessionEnd) -> Result<bool, AllocError> {
+    let sessions = [one(alloc, first)?, one(alloc, ping(alloc)?)?];
+    Ok(play_two(alloc, &sessions, end))
 }
 
 #[test]

@@ -1,4 +1,4 @@
-use chv_defs::{Asked, Bytes, Reason, Row, Scene, Text};
+use chv_defs::{Asked, Bytes, Reason, Scene};
 use chv_scene::{SceneFault, read};
 use std::alloc::{AllocError, Global};
 use std::test::Fail;
@@ -19,63 +19,61 @@ fn outcome(alloc: Global, text: &str) -> Result<Result<usize, (u32, Reason)>, Fa
     }
 }
 
+const FAULTS: [(&str, u32, Reason); 20] = [
+    ("session", 1, Reason::Unended),
+    ("session\nend", 2, Reason::Unended),
+    ("session\nbad x", 2, Reason::Unended),
+    ("session\n", 2, Reason::Unclosed),
+    ("session\nget vmm.ping\n", 3, Reason::Unclosed),
+    ("\n", 1, Reason::UnknownWord),
+    ("end\n", 1, Reason::UnknownWord),
+    ("session \n", 1, Reason::FieldCount),
+    ("session\n\n", 2, Reason::UnknownWord),
+    ("session\nsession\n", 2, Reason::UnknownWord),
+    ("session\nbad\nworse\n", 2, Reason::UnknownWord),
+    ("session\nend x\n", 2, Reason::FieldCount),
+    ("session\nget\n", 2, Reason::FieldCount),
+    ("session\nget \n", 2, Reason::BadName),
+    ("session\nget a b\n", 2, Reason::FieldCount),
+    ("session\nput X {}\n", 2, Reason::BadName),
+    ("session\nput x \n", 2, Reason::FieldCount),
+    ("session\nraw AA\n", 2, Reason::BadHex),
+    ("session\nraw \n", 2, Reason::BadHex),
+    (
+        "session\nget abcdefghijklmnopqrstuvwxyz0123456\n",
+        2,
+        Reason::BadName,
+    ),
+];
+
 #[test]
 fn names_the_first_line_that_fails(rt: HostRuntime) -> Result<(), Fail> {
-    let rows = [
-        ("session", 1, Reason::Unended),
-        ("session\nend", 2, Reason::Unended),
-        ("session\nbad x", 2, Reason::Unended),
-        ("session\n", 2, Reason::Unclosed),
-        ("session\nget vmm.ping\n", 3, Reason::Unclosed),
-        ("\n", 1, Reason::UnknownWord),
-        ("end\n", 1, Reason::UnknownWord),
-        ("session \n", 1, Reason::FieldCount),
-        ("session\n\n", 2, Reason::UnknownWord),
-        ("session\nsession\n", 2, Reason::UnknownWord),
-        ("session\nbad\nworse\n", 2, Reason::UnknownWord),
-        ("session\nend x\n", 2, Reason::FieldCount),
-        ("session\nget\n", 2, Reason::FieldCount),
-        ("session\nget \n", 2, Reason::BadName),
-        ("session\nget a b\n", 2, Reason::FieldCount),
-        ("session\nput X {}\n", 2, Reason::BadName),
-        ("session\nput x \n", 2, Reason::FieldCount),
-        ("session\nraw AA\n", 2, Reason::BadHex),
-        ("session\nraw \n", 2, Reason::BadHex),
-        (
-            "session\nget abcdefghijklmnopqrstuvwxyz0123456\n",
-            2,
-            Reason::BadName,
-        ),
-    ];
-    for (text, line, reason) in rows {
-        assert!(rt;
-            outcome(rt.alloc(), text)? == Err((line, reason)),
-            "at {text}"
-        );
+    for (text, line, reason) in &FAULTS {
+        let came = outcome(rt.alloc(), *text)?;
+        assert!(rt; came == Err((*line, *reason)), "at {text}");
     }
     Ok(())
 }
 
+const NOT_BUILT: [(&str, u32, Reason); 11] = [
+    ("disk\n", 1, Reason::NotBuilt),
+    ("vcpu 0 1\n", 1, Reason::NotBuilt),
+    ("order\n", 1, Reason::NotBuilt),
+    ("session\nend\norder x\n", 3, Reason::NotBuilt),
+    ("session\nend\ndisk a 1\n", 3, Reason::OutOfOrder),
+    ("session\nend\ndisk a\n", 3, Reason::FieldCount),
+    ("session\nend\ndisk .a 0\n", 3, Reason::BadName),
+    ("session\nend\ndisk a 8193\n", 3, Reason::BadNumber),
+    ("session\nend\nvcpu 15 1048576\n", 3, Reason::OutOfOrder),
+    ("session\nend\nvcpu 16 1\n", 3, Reason::BadNumber),
+    ("session\nend\nvcpu 0 1048577\n", 3, Reason::BadNumber),
+];
+
 #[test]
 fn knows_what_is_not_built(rt: HostRuntime) -> Result<(), Fail> {
-    let rows = [
-        ("disk\n", 1, Reason::NotBuilt),
-        ("vcpu 0 1\n", 1, Reason::NotBuilt),
-        ("order\n", 1, Reason::NotBuilt),
-        ("session\nend\norder x\n", 3, Reason::NotBuilt),
-        ("session\nend\ndisk a 1\n", 3, Reason::OutOfOrder),
-        ("session\nend\ndisk a\n", 3, Reason::FieldCount),
-        ("session\nend\ndisk .a 0\n", 3, Reason::BadName),
-        ("session\nend\ndisk a 8193\n", 3, Reason::BadNumber),
-        ("session\nend\nvcpu 15 1048576\n", 3, Reason::OutOfOrder),
-        ("session\nend\nvcpu 16 1\n", 3, Reason::BadNumber),
-        ("session\nend\nvcpu 0 1048577\n", 3, Reason::BadNumber),
-    ];
-    for (text, line, reason) in rows {
-        assert!(rt;
-            outcome(rt.alloc(), text)? == Err((line, reason)),
-            "at {text}"
-        );
+    for (text, line, reason) in &NOT_BUILT {
+        let came = outcome(rt.alloc(), *text)?;
+        assert!(rt; came == Err((*line, *reason)), "at {text}");
     }
     Ok(())
 }
@@ -89,50 +87,80 @@ fn empty_sessions(alloc: Global, count: usize) -> Result<String, AllocError> {
     Ok(text)
 }
 
+fn outcome_of(alloc: Global, count: usize) -> Result<Result<usize, (u32, Reason)>, Fail> {
+    outcome(alloc, empty_sessions(alloc, count)?.as_str())
+}
+
 #[test]
 fn reads_sixteen_sessions(rt: HostRuntime) -> Result<(), Fail> {
-    let alloc = rt.alloc();
-    assert!(rt; outcome(alloc, "")? == Ok(0));
-    let sixteen = empty_sessions(alloc, 16)?;
-    assert!(rt; outcome(alloc, sixteen.as_str())? == Ok(16));
-    let more = empty_sessions(alloc, 17)?;
-    assert!(rt; outcome(alloc, more.as_str())? == Err((33, Reason::TooMany)));
+    assert!(rt; outcome_of(rt.alloc(), 0)? == Ok(0));
+    assert!(rt; outcome_of(rt.alloc(), 16)? == Ok(16));
+    assert!(rt; outcome_of(rt.alloc(), 17)? == Err((33, Reason::TooMany)));
     Ok(())
 }
 
-fn put(alloc: Global, name: &str, body: Option<&str>) -> Result<Asked, AllocError> {
-    let name = Text::of(alloc, name)?;
-    let body = match body {
-        Some(body) => Some(Bytes::of(alloc, body.as_bytes())?),
-        None => None,
-    };
-    Ok(Asked::Put { name, body })
+// A session without requests, and one of each kind of request.
+const TEXT: &str =
+    "session\nend\nsession\nget vmm.ping\nput vm.boot\nput vm.create  {\"x\": 1} \nraw 00ff\nend\n";
+
+fn has_bytes(body: &Option<Bytes>, bytes: &[u8]) -> bool {
+    match body {
+        Some(body) => body.as_slice() == bytes,
+        None => false,
+    }
 }
 
-// The requests of the session below.
-fn requests(alloc: Global) -> Result<Row<Asked>, AllocError> {
-    let mut requests = Row::empty(alloc);
-    requests.push(Asked::Get(Text::of(alloc, "vmm.ping")?))?;
-    requests.push(put(alloc, "vm.boot", None)?)?;
-    requests.push(put(alloc, "vm.create", Some(" {\"x\": 1} "))?)?;
-    requests.push(Asked::Raw(Bytes::of(alloc, b"\x00\xff")?))?;
-    Ok(requests)
+fn is_get(request: &Asked, expected: &str) -> bool {
+    match request {
+        Asked::Get(name) => name.as_str() == expected,
+        _ => false,
+    }
+}
+
+fn is_bare_put(request: &Asked, expected: &str) -> bool {
+    match request {
+        Asked::Put { name, body } => name.as_str() == expected && body.is_none(),
+        _ => false,
+    }
+}
+
+fn is_put(request: &Asked, expected: &str, bytes: &[u8]) -> bool {
+    match request {
+        Asked::Put { name, body } => name.as_str() == expected && has_bytes(body, bytes),
+        _ => false,
+    }
+}
+
+fn is_raw(request: &Asked, expected: &[u8]) -> bool {
+    match request {
+        Asked::Raw(bytes) => bytes.as_slice() == expected,
+        _ => false,
+    }
+}
+
+fn has_each_kind(requests: &[Asked]) -> bool {
+    match requests {
+        [get, bare, put, raw] => {
+            is_get(get, "vmm.ping")
+                && is_bare_put(bare, "vm.boot")
+                && is_put(put, "vm.create", b" {\"x\": 1} ")
+                && is_raw(raw, b"\x00\xff")
+        }
+        _ => false,
+    }
+}
+
+fn has_sessions(scene: &Scene) -> bool {
+    match scene.sessions.as_slice() {
+        [empty, full] => empty.is_empty() && has_each_kind(full.as_slice()),
+        _ => false,
+    }
 }
 
 #[test]
 fn reads_requests(rt: HostRuntime) -> Result<(), Fail> {
-    let alloc = rt.alloc();
-    let text =
-        "session\nend\nsession\nget vmm.ping\nput vm.boot\nput vm.create  {\"x\": 1} \nraw 00ff\nend\n";
-    let Ok(scene) = answer(alloc, text)? else {
-        return Err("refused".into());
-    };
-    let expected = requests(alloc)?;
-    assert!(rt; scene.sessions.len() == 2);
-    for (at, session) in scene.sessions.as_slice().iter().enumerate() {
-        assert!(rt; session.is_empty() || at == 1);
-    }
-    assert!(rt; scene.sessions.as_slice().last() == Some(&expected));
+    let scene = answer(rt.alloc(), TEXT)?.ok().ok_or("refused")?;
+    assert!(rt; has_sessions(&scene));
     assert!(rt; scene.disks.is_empty() && scene.vcpus.is_empty() && scene.order.is_none());
     Ok(())
 }

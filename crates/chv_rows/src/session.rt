@@ -1,4 +1,4 @@
-ghost use Rattle.std.specs.Prelude.{◌≡◌, true, false};
+ghost use Rattle.std.specs.Prelude.{◌≡◌, [], true, false};
 ghost use Rattle.chv_defs.specs.Machine.{IsSession};
 ghost use Rattle.chv_defs.specs.Desks.{can_have, is_held};
 
@@ -138,19 +138,39 @@ struct Left {
     calls: usize,
 }
 
-/// A session over a stream, byte by byte or in large pieces. The call of the connection with the number `fail` fails, and
-/// the run stops behind so many calls.
-fn play(
+/// A connection with a stream, byte by byte or in large pieces, of which the call with the number `fail` fails.
+fn link_of(alloc: Global, stream: &[u8], by_bytes: bool, fail: u64) -> Result<MemLink, AllocError> {
+    let size = if by_bytes { 1 } else { 4096 };
+    MemLink::new(
+        alloc,
+        Bytes::of(alloc, stream)?,
+        size,
+        4096,
+        numbers(alloc, &[fail])?,
+    )
+}
+
+/// The log of a session over a connection.
+fn log_of(
     alloc: Global,
-    stream: &[u8],
-    by_bytes: bool,
-    fail: u64,
+    link: &mut MemLink,
+    desk: &mut TestDesk,
+    turns: usize,
+) -> Result<SessionLog, AllocError>
+    requires { desk.old.made.items ≡ [] }
+{
+    let mut session = Session::new(alloc)?;
+    run(&mut session, link, desk, turns)?;
+    Ok(session.log())
+}
+
+/// What a session over a connection leaves, where the run stops behind so many calls.
+fn left_over(
+    alloc: Global,
+    link: &mut MemLink,
     stops_behind: usize,
     turns: usize,
 ) -> Result<Left, AllocError> {
-    let fail = numbers(alloc, &[fail])?;
-    let size = if by_bytes { 1 } else { 4096 };
-    let mut link = MemLink::new(alloc, Bytes::of(alloc, stream)?, size, 4096, fail)?;
     let mut desk = TestDesk {
         alloc,
         made: Vec::new(alloc),
@@ -158,10 +178,9 @@ fn play(
         refused: None,
         has_machine: false,
     };
-    let mut session = Session::new(alloc)?;
-    run(&mut session, &mut link, &mut desk, turns)?;
+    let log = log_of(alloc, link, &mut desk, turns)?;
     Ok(Left {
-        log: session.log(),
+        log,
         put: Vec::from_slice(alloc, link.written())?,
         is_closed: link.is_closed(),
         calls: desk.made.len(),
@@ -176,20 +195,33 @@ const REPLIES: [(&[u8], &[u8], bool); 3] = [
     (MACHINE, MACHINE_REPLIES, true),
 ];
 
+fn replies_so(
+    alloc: Global,
+    stream: &[u8],
+    expected: &[u8],
+    by_bytes: bool,
+) -> Result<bool, AllocError> {
+    let mut link = link_of(alloc, stream, by_bytes, 0)?;
+    let left = left_over(alloc, &mut link, 9, 9)?;
+    Ok(left.put.as_slice() == expected && left.calls == 4)
+}
+
 #[test]
 fn replies(rt: HostRuntime) -> Result<(), Fail> {
-    let alloc = rt.alloc();
-    for (stream, expected, by_bytes) in REPLIES {
-        let left = play(alloc, stream, by_bytes, 0, 9, 9)?;
-        assert!(rt; left.put.as_slice() == expected);
-        assert!(rt; left.calls == 4);
+    for (k, (stream, expected, by_bytes)) in REPLIES.iter().enumerate() {
+        assert!(rt;
+            replies_so(rt.alloc(), *stream, *expected, *by_bytes)?,
+            "row {k}"
+        );
     }
     Ok(())
 }
 
 /// A stream, the call of the connection that fails, the calls behind which the run stops, and the turns; then the end,
 /// and the number of calls.
-const ENDS: [(&[u8], u64, usize, usize, SessionEnd, usize); 17] = [
+type End<'a> = (&'a [u8], u64, usize, usize, SessionEnd, usize);
+
+const ENDS: [End<'static>; 17] = [
     (b"", 0, 9, 9, SessionEnd::Ended, 1),
     (
         b"PUT /api/v1/vm.boot HTTP/1.1\r\nContent-Length: 5\r\n\r\nhel",
@@ -226,15 +258,22 @@ const ENDS: [(&[u8], u64, usize, usize, SessionEnd, usize); 17] = [
     (TWO, 5, 9, 9, SessionEnd::Ended, 4),
 ];
 
+fn is_end(left: &Left, end: &End) -> bool {
+    left.log.end == end.4
+        && left.calls == end.5
+        && left.put.as_slice() == left.log.replied.as_slice()
+        && left.is_closed == (end.3 > 1)
+}
+
+fn ends_so(alloc: Global, end: &End) -> Result<bool, AllocError> {
+    let mut link = link_of(alloc, end.0, false, end.1)?;
+    Ok(is_end(&left_over(alloc, &mut link, end.2, end.3)?, end))
+}
+
 #[test]
 fn ends(rt: HostRuntime) -> Result<(), Fail> {
-    let alloc = rt.alloc();
-    for (stream, fail, stops_behind, turns, end, calls) in ENDS {
-        let left = play(alloc, stream, false, fail, stops_behind, turns)?;
-        assert!(rt; left.log.end == end);
-        assert!(rt; left.calls == calls);
-        assert!(rt; left.put.as_slice() == left.log.replied.as_slice());
-        assert!(rt; left.is_closed == (turns > 1));
+    for (k, end) in ENDS.iter().enumerate() {
+        assert!(rt; ends_so(rt.alloc(), end)?, "row {k}");
     }
     Ok(())
 }

@@ -55,95 +55,116 @@ fn disks_of(alloc: Global, text: &str) -> Result<Vec<(Name, MemDisk)>, Fail> {
     Ok(disks)
 }
 
-// The status of a run of these words, and what it wrote, where the disk `focal.raw` stands by. The read and the write of
-// these numbers fail; 0 is none.
+// Runs the program with these words, where the disk `focal.raw` stands by.
 fn run(
     alloc: Global,
     words: &str,
-    text: &str,
-    read: u64,
-    write: u64,
-) -> Result<(Status, Vec<u8>), Fail> {
+    input: &mut MemSource,
+    out: &mut MemSink,
+) -> Result<Status, Fail> {
     let words = words_of(alloc, words)?;
-    let mut input = MemSource::new(Bytes::of(alloc, text.as_bytes())?, numbers(alloc, &[read])?);
-    let mut out = MemSink::new(alloc, 100_000, numbers(alloc, &[write])?)?;
     let disks = disks_of(alloc, "focal.raw")?;
-    let ended = run_program(alloc, words.as_slice(), &mut input, &mut out, disks);
-    Ok((ended.status, Vec::from_slice(alloc, out.written())?))
+    Ok(run_program(alloc, words.as_slice(), input, out, disks).status)
 }
+
+// The text as an input, whose read of this number fails; 0 is none.
+fn input_of(alloc: Global, text: &str, read: u64) -> Result<MemSource, AllocError> {
+    let fail = numbers(alloc, &[read])?;
+    Ok(MemSource::new(Bytes::of(alloc, text.as_bytes())?, fail))
+}
+
+// Whether a run on a text ends with this status, and writes this. The read and the write of these numbers fail; 0 is none.
+fn comes(
+    alloc: Global,
+    words: &str,
+    text: &str,
+    faults: (u64, u64),
+    code: u8,
+    line: &str,
+) -> Result<bool, Fail> {
+    let mut input = input_of(alloc, text, faults.0)?;
+    let mut out = MemSink::new(alloc, 100_000, numbers(alloc, &[faults.1])?)?;
+    let status = run(alloc, words, &mut input, &mut out)?;
+    Ok(status.code() == code && out.written() == line.as_bytes())
+}
+
+const PLAYED: [(&str, &str); 6] = [
+    ("", NOTHING_TRACE),
+    (INFO, INFO_TRACE),
+    (CREATE, CREATE_TRACE),
+    (CPUS, CPUS_TRACE),
+    (ZONES, ZONES_TRACE),
+    (MISTAKES, MISTAKES_TRACE),
+];
 
 #[test]
 fn scenarios_are_played(rt: HostRuntime) -> Result<(), Fail> {
-    let cases = [
-        ("", NOTHING_TRACE),
-        (INFO, INFO_TRACE),
-        (CREATE, CREATE_TRACE),
-        (CPUS, CPUS_TRACE),
-        (ZONES, ZONES_TRACE),
-        (MISTAKES, MISTAKES_TRACE),
-    ];
-    for (text, trace) in cases {
-        let (status, written) = run(rt.alloc(), "play", text, 0, 0)?;
-        assert!(rt; status == Status::Done, "{text}");
-        assert!(rt; written.as_slice() == trace.as_bytes(), "{text}");
+    for (text, trace) in &PLAYED {
+        assert!(rt;
+            comes(rt.alloc(), "play", *text, (0, 0), 0, *trace)?,
+            "{text}"
+        );
     }
     Ok(())
 }
 
+/// The words, the input, the read and the write that fail, the status, and what is written.
+const NOT_PLAYED: [(&str, &str, (u64, u64), u8, &str); 12] = [
+    ("run", INFO, (0, 0), 1, "chv: usage\n"),
+    ("serve 0 8080", INFO, (0, 0), 1, "chv: usage\n"),
+    ("serve 1 8080", INFO, (0, 0), 1, "chv: usage\n"),
+    ("demo 7", INFO, (0, 0), 1, "chv: usage\n"),
+    ("play play", INFO, (0, 0), 1, "chv: usage\n"),
+    ("--help", INFO, (0, 0), 1, "chv: usage\n"),
+    (
+        "play",
+        "order\nq\nend\n",
+        (0, 0),
+        2,
+        "chv: line 1: NotBuilt\n",
+    ),
+    (
+        "play",
+        "session\nget vmm.ping\nend",
+        (0, 0),
+        2,
+        "chv: line 3: Unended\n",
+    ),
+    (
+        "play",
+        "session\nget vmm.ping\n",
+        (0, 0),
+        2,
+        "chv: line 3: Unclosed\n",
+    ),
+    ("play", INFO, (1, 0), 3, "chv: read fault\n"),
+    ("play", INFO, (0, 1), 4, ""),
+    ("run", INFO, (0, 1), 4, ""),
+];
+
 #[test]
 fn what_is_not_played(rt: HostRuntime) -> Result<(), Fail> {
-    let cases = [
-        ("run", INFO, 0, 0, 1, "chv: usage\n"),
-        ("serve 0 8080", INFO, 0, 0, 1, "chv: usage\n"),
-        ("serve 1 8080", INFO, 0, 0, 1, "chv: usage\n"),
-        ("demo 7", INFO, 0, 0, 1, "chv: usage\n"),
-        ("play play", INFO, 0, 0, 1, "chv: usage\n"),
-        ("--help", INFO, 0, 0, 1, "chv: usage\n"),
-        (
-            "play",
-            "order\nq\nend\n",
-            0,
-            0,
-            2,
-            "chv: line 1: NotBuilt\n",
-        ),
-        (
-            "play",
-            "session\nget vmm.ping\nend",
-            0,
-            0,
-            2,
-            "chv: line 3: Unended\n",
-        ),
-        (
-            "play",
-            "session\nget vmm.ping\n",
-            0,
-            0,
-            2,
-            "chv: line 3: Unclosed\n",
-        ),
-        ("play", INFO, 1, 0, 3, "chv: read fault\n"),
-        ("play", INFO, 0, 1, 4, ""),
-        ("run", INFO, 0, 1, 4, ""),
-    ];
-    for (words, text, read, write, code, line) in cases {
-        let (status, written) = run(rt.alloc(), words, text, read, write)?;
-        assert!(rt; status.code() == code, "{words} {line}");
-        assert!(rt; written.as_slice() == line.as_bytes(), "{words} {line}");
+    for (words, text, faults, code, line) in &NOT_PLAYED {
+        assert!(rt;
+            comes(rt.alloc(), *words, *text, *faults, *code, *line)?,
+            "{words} {line}"
+        );
     }
     Ok(())
+}
+
+// Whether a text of this many bytes is too long, and the disk comes back.
+fn is_too_long(alloc: Global, length: usize, out: &mut MemSink) -> Result<bool, Fail> {
+    let text = vec![in alloc; b'a'; length]?;
+    let mut input = MemSource::new(Bytes::new(text), Row::empty(alloc));
+    let ended = play_program(alloc, &mut input, out, disks_of(alloc, "root")?);
+    Ok(ended.status.code() == 9 && ended.disks.len() == 1)
 }
 
 #[test]
 fn an_input_that_is_too_long(rt: HostRuntime) -> Result<(), Fail> {
-    let alloc = rt.alloc();
-    let text = vec![in alloc; b'a'; 16_777_217]?;
-    let mut input = MemSource::new(Bytes::new(text), Row::empty(alloc));
-    let mut out = MemSink::new(alloc, 100, Row::empty(alloc))?;
-    let ended = play_program(alloc, &mut input, &mut out, disks_of(alloc, "root")?);
-    assert!(rt; ended.status.code() == 9);
+    let mut out = MemSink::new(rt.alloc(), 100, Row::empty(rt.alloc()))?;
+    assert!(rt; is_too_long(rt.alloc(), 16_777_217, &mut out)?);
     assert!(rt; out.written() == "chv: too long\n".as_bytes());
-    assert!(rt; ended.disks.len() == 1);
     Ok(())
 }
