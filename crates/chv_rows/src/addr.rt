@@ -2,10 +2,10 @@
 ghost use Rattle.std.specs.Prelude.{◌≡◌, true, IfOk};
 ghost use Rattle.chv_defs.specs.AddressMap.{is_within_limits};
 
-use crate::common::plain_config;
 use chv_addr::{AddrMap, checked_zones_fit};
 use chv_config::check;
 use chv_defs::{Checked, Hotplug, Place, Region, Row, Text, VmConfig, ZoneConfig};
+use chv_samples::plain_config;
 use std::alloc::{AllocError, Global};
 use std::test::Fail;
 

@@ -3,11 +3,11 @@ ghost use Rattle.std.specs.Prelude.{◌≡◌, true};
 ghost use Rattle.chv_defs.specs.Machine.{IsSession};
 ghost use Rattle.chv_defs.specs.Desks.{is_session_call};
 
-use crate::common::{name, plain_config, plain_disk};
 use chv_control::{Control, Inner, Start, refusals_change_nothing};
 use chv_defs::{
     BookId, ControlCall, ControlReply, CpuConfig, Full, Goal, Info, Name, Row, Rule, VmConfig,
 };
+use chv_samples::{name, plain_config, plain_disk};
 use chv_store::{AnyDisk, MemDisk};
 use std::alloc::{AllocError, Global};
 use std::test::Fail;

@@ -3,12 +3,12 @@ ghost use Rattle.std.specs.Prelude.{◌≡◌, true};
 ghost use Rattle.chv_defs.specs.Machine.{IsWellFormed, empty_machine};
 ghost use Rattle.chv_defs.specs.Desks.{is_session_call};
 
-use crate::common::{name, plain_config, plain_disk};
 use chv_ctl_api::{answers_fit, api_step, refused_calls_change_nothing, states_stay_well_formed};
 use chv_defs::{
     ControlCall, ControlReply, DiskConfig, Goal, Hotplug, Life, Machine, OnShelf, Row, Rule, Text,
     VmConfig,
 };
+use chv_samples::{name, plain_config, plain_disk};
 use std::alloc::{AllocError, Global};
 use std::test::Fail;
 

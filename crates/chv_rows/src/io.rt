@@ -1,11 +1,11 @@
 ghost use Rattle.std.specs.Prelude.{◌≡◌, None};
 
-use crate::common::numbers;
 use chv_defs::{Bytes, Row};
 use chv_io::{
     Failed, Link, Listener, MemLink, MemListener, MemSink, MemSource, Sink, Source, StdSink,
     StdSource, read_from, write_to,
 };
+use chv_samples::numbers;
 use std::alloc::{AllocError, Global};
 use std::io::{Error, ErrorKind, Read, Write};
 use std::test::Fail;

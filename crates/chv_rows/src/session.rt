@@ -2,12 +2,12 @@ ghost use Rattle.std.specs.Prelude.{◌≡◌, [], true, false};
 ghost use Rattle.chv_defs.specs.Machine.{IsSession};
 ghost use Rattle.chv_defs.specs.Desks.{can_have, is_held};
 
-use crate::common::{numbers, plain_config};
 use chv_defs::{
     Bytes, ControlCall, ControlReply, Desk, Info, Row, Rule, SessionEnd, SessionLog, ShownState,
     Stopped, copy_of,
 };
 use chv_io::{Link, MemLink};
+use chv_samples::{numbers, plain_config};
 use chv_session::{Next, Session};
 use std::alloc::{AllocError, Global};
 use std::marker::Model;

@@ -1,5 +1,5 @@
-use crate::common::numbers;
 use chv_io::Disk;
+use chv_samples::numbers;
 use chv_store::{AnyDisk, MemDisk};
 use std::alloc::{AllocError, Global};
 use std::test::Fail;

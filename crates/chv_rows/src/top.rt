@@ -1,7 +1,7 @@
 // The worked scenarios, and each fault of the outside.
-use crate::common::{name, numbers};
 use chv_defs::{Bytes, Name, Row};
 use chv_io::{MemSink, MemSource};
+use chv_samples::{name, numbers};
 use chv_store::MemDisk;
 use chv_top::{Status, play_program, run_program};
 use std::alloc::{AllocError, Global};

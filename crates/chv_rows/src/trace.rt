@@ -1,13 +1,13 @@
 // Texts worked out from their format by hand, and outputs that fail.
 ghost use Rattle.std.specs.Prelude.{◌≡◌, []};
 
-use crate::common::{name, numbers};
 use chv_defs::{
     BookId, BusyAt, Bytes, ContextNote, ControlCall, ControlEntry, ControlReply, CpuNote,
     DiskCount, HandNote, MemAnswer, MemRequest, QueueFault, QueueNote, RegAccess, Role, Row, Rule,
     SessionEnd, SessionLog, SessionTrace, SliceEnd, Text, Trace,
 };
 use chv_io::MemSink;
+use chv_samples::{name, numbers};
 use chv_trace::{PrintError, print};
 use std::alloc::{AllocError, Global};
 use std::test::Fail;

@@ -1,9 +1,9 @@
 // The rules, each just broken and just kept, and the worked configurations.
-use crate::common::{name, plain_config};
 use chv_config::{check, check_disk};
 use chv_defs::{
     Checked, CpuConfig, DiskConfig, Hotplug, Name, Row, Rule, Text, VmConfig, ZoneConfig,
 };
+use chv_samples::{name, plain_config};
 use std::alloc::{AllocError, Global};
 use std::test::Fail;
 

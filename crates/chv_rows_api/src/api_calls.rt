@@ -1,6 +1,6 @@
-use crate::common::{name, plain_config, plain_disk};
 use chv_api::calls_of;
 use chv_defs::{Bytes, ControlCall, Goal, Request, Rule, Text};
+use chv_samples::{name, plain_config, plain_disk};
 use std::alloc::{AllocError, Global};
 use std::test::Fail;
 

@@ -1,4 +1,6 @@
-// What the rows of several crates begin with.
+//! What the rows of several crates begin with: names, numbers, a plain disk and a plain configuration.
+#![tactic(auto)]
+
 use chv_defs::{CpuConfig, DiskConfig, Hotplug, MemConfig, Name, Row, Text, VmConfig};
 use std::alloc::{AllocError, Global};
 use std::test::Fail;

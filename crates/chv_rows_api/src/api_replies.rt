@@ -1,6 +1,6 @@
-use crate::common::plain_disk;
 use chv_api::{refusal_of, reply_of};
 use chv_defs::{ControlCall, ControlReply, CountOf, DiskCount, Goal, Row, Rule, Text};
+use chv_samples::plain_disk;
 use std::alloc::{AllocError, Global};
 use std::test::Fail;
 

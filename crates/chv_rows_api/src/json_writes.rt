@@ -1,9 +1,9 @@
-use crate::common::{plain_config, plain_disk};
 use chv_defs::{
     CountOf, CpuConfig, DeviceInfo, DiskConfig, DiskCount, Hotplug, Info, Row, ShownState, Text,
     VmConfig, ZoneConfig, ZoneInfo,
 };
 use chv_json::{config_text, counters_text, device_text, disk_text, info_text};
+use chv_samples::{plain_config, plain_disk};
 use std::alloc::{AllocError, Global};
 use std::test::Fail;
 
