@@ -1,5 +1,6 @@
--- A desk, at which one caller asks the control machine: which calls it may make there, and of which kinds their answers
--- are. So far the caller is a session. Callers and their numbers are this project's own.
+-- A desk, at which one caller asks the control machine: which calls it may make there, of which kinds their answers are,
+-- and what it means that nothing but asking was done at a desk. So far the caller is a session. Callers and their numbers
+-- are this project's own.
 use Rattle.std.specs.Prelude.{◌≡◌, ℕ, Bool, true, false, List, [], ◌∷◌}
 use Rattle.chv_defs.specs.declared.control.ControlCall.{ControlCall}
 use Rattle.chv_defs.specs.declared.control.ControlCall.TheVariants as call

@@ -1,5 +1,8 @@
 // Calls on a bank, which is one lock's share of a memory zone, and its history.
+ghost use Rattle.std.specs.Prelude.{◌≡◌};
+
 use crate::Bytes;
+use std::alloc::AllocError;
 
 /// Blocks of 2 MiB that follow each other: `count` of them from `first` on.
 #[derive(Clone, Copy, PartialEq, Eq)]
@@ -9,7 +12,7 @@ pub struct Span {
 }
 
 /// A call on a bank. Numbers of blocks are the zone's; offsets and lengths are in bytes.
-#[derive(Clone, PartialEq, Eq, Drop)]
+#[derive(Drop)]
 pub enum BankCall {
     /// Opens the blocks below a number, and no others; every byte is 0.
     Shape(u32),
@@ -48,8 +51,50 @@ pub enum BankCall {
     },
 }
 
+impl Clone for BankCall {
+    ghost is_clone = { λ a b. b ≡ a };
+
+    fn clone(&self) -> Result<BankCall, AllocError> {
+        Ok(match self {
+            BankCall::Shape(blocks) => BankCall::Shape(*blocks),
+            BankCall::Wipe => BankCall::Wipe,
+            BankCall::Open(span) => BankCall::Open(*span),
+            BankCall::Seal(span) => BankCall::Seal(*span),
+            BankCall::Unseal(span) => BankCall::Unseal(*span),
+            BankCall::Close(span) => BankCall::Close(*span),
+            BankCall::Freeze => BankCall::Freeze,
+            BankCall::Thaw => BankCall::Thaw,
+            BankCall::Fill { block, page, bytes } => BankCall::Fill {
+                block: *block,
+                page: *page,
+                bytes: bytes.clone()?,
+            },
+            BankCall::Show => BankCall::Show,
+            BankCall::Read { block, offset, len } => BankCall::Read {
+                block: *block,
+                offset: *offset,
+                len: *len,
+            },
+            BankCall::Write {
+                block,
+                offset,
+                bytes,
+            } => BankCall::Write {
+                block: *block,
+                offset: *offset,
+                bytes: bytes.clone()?,
+            },
+            BankCall::Pin { number, span } => BankCall::Pin {
+                number: *number,
+                span: *span,
+            },
+            BankCall::Unpin { number } => BankCall::Unpin { number: *number },
+        })
+    }
+}
+
 /// The answer of a bank.
-#[derive(Clone, PartialEq, Eq, Drop)]
+#[derive(PartialEq, Eq, Drop)]
 pub enum BankReply {
     Done,
     Got(Bytes),
@@ -63,8 +108,28 @@ pub enum BankReply {
     Fault(u32),
 }
 
+impl Clone for BankReply {
+    ghost is_clone = { λ a b. b ≡ a };
+
+    fn clone(&self) -> Result<BankReply, AllocError> {
+        Ok(match self {
+            BankReply::Done => BankReply::Done,
+            BankReply::Got(bytes) => BankReply::Got(bytes.clone()?),
+            BankReply::Sealed => BankReply::Sealed,
+            BankReply::Busy { block, caller } => BankReply::Busy {
+                block: *block,
+                caller: *caller,
+            },
+            BankReply::Closed => BankReply::Closed,
+            BankReply::Pages(count) => BankReply::Pages(*count),
+            BankReply::Pinned => BankReply::Pinned,
+            BankReply::Fault(block) => BankReply::Fault(*block),
+        })
+    }
+}
+
 /// One entry of a bank's history.
-#[derive(Clone, PartialEq, Eq, Drop)]
+#[derive(Drop)]
 pub struct BankEntry {
     /// 0 is the owner, 1 + n the context of vCPU n, 16 + s that of the device in slot s.
     pub caller: u32,
@@ -98,7 +163,7 @@ pub enum BookId {
 }
 
 /// A page of 4,096 bytes in a block of 512 pages.
-#[derive(Clone, PartialEq, Eq, Drop)]
+#[derive(Drop)]
 pub struct PageAt {
     pub block: u32,
     pub page: u16,

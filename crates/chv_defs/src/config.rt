@@ -1,5 +1,8 @@
 // A machine's configuration, as a request gives it and as it is checked.
+ghost use Rattle.std.specs.Prelude.{◌≡◌};
+
 use crate::{Row, Text};
+use std::alloc::AllocError;
 
 /// The configuration that `vm.create` takes. All sizes are in bytes.
 #[derive(Clone, PartialEq, Eq, Drop)]
@@ -18,7 +21,7 @@ pub struct CpuConfig {
 
 /// The memory. `size`, `hotplug` and `hotplugged` are those of the zone `mem0`, which is in effect where `zones` is
 /// empty; else they have to be 0.
-#[derive(Clone, PartialEq, Eq, Drop)]
+#[derive(PartialEq, Eq, Drop)]
 pub struct MemConfig {
     /// Bytes of boot memory.
     pub size: u64,
@@ -31,6 +34,20 @@ pub struct MemConfig {
     pub zones: Row<ZoneConfig>,
 }
 
+impl Clone for MemConfig {
+    ghost is_clone = { λ a b. b ≡ a };
+
+    fn clone(&self) -> Result<MemConfig, AllocError> {
+        Ok(MemConfig {
+            size: self.size,
+            hotplug: self.hotplug,
+            hotplugged: self.hotplugged,
+            way: self.way,
+            zones: self.zones.clone()?,
+        })
+    }
+}
+
 /// How memory is plugged: by ACPI memory modules, or by a virtio-mem device (VIRTIO 1.2, 5.15).
 #[derive(Clone, Copy, PartialEq, Eq)]
 pub enum Hotplug {
@@ -39,7 +56,7 @@ pub enum Hotplug {
 }
 
 /// A memory zone, with sizes in bytes as in `MemConfig`.
-#[derive(Clone, PartialEq, Eq, Drop)]
+#[derive(PartialEq, Eq, Drop)]
 pub struct ZoneConfig {
     pub id: Text,
     pub size: u64,
@@ -47,8 +64,21 @@ pub struct ZoneConfig {
     pub hotplugged: u64,
 }
 
+impl Clone for ZoneConfig {
+    ghost is_clone = { λ a b. b ≡ a };
+
+    fn clone(&self) -> Result<ZoneConfig, AllocError> {
+        Ok(ZoneConfig {
+            id: self.id.clone()?,
+            size: self.size,
+            hotplug: self.hotplug,
+            hotplugged: self.hotplugged,
+        })
+    }
+}
+
 /// A disk: the last component of `path` names one of the disks that stand by.
-#[derive(Clone, PartialEq, Eq, Drop)]
+#[derive(PartialEq, Eq, Drop)]
 pub struct DiskConfig {
     pub path: Text,
     pub id: Option<Text>,
@@ -59,9 +89,23 @@ pub struct DiskConfig {
     pub queue_size: u64,
 }
 
+impl Clone for DiskConfig {
+    ghost is_clone = { λ a b. b ≡ a };
+
+    fn clone(&self) -> Result<DiskConfig, AllocError> {
+        Ok(DiskConfig {
+            path: self.path.clone()?,
+            id: self.id.clone()?,
+            readonly: self.readonly,
+            queues: self.queues,
+            queue_size: self.queue_size,
+        })
+    }
+}
+
 /// A configuration that breaks no rule: each disk has an id, and `zones` are the zones in effect, which are
 /// the configured ones, or the one zone `mem0` with the memory's own sizes.
-#[derive(Clone, PartialEq, Eq, Drop)]
+#[derive(PartialEq, Eq, Drop)]
 pub struct Checked {
     pub config: VmConfig,
     pub zones: Row<ZoneConfig>,

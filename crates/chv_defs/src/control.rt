@@ -1,8 +1,11 @@
 // Calls on the control machine, and its history.
+ghost use Rattle.std.specs.Prelude.{◌≡◌};
+
 use crate::{
     Bytes, ContextNote, CountOf, DiskConfig, HandNote, Info, Name, RegAccess, Row, Rule, Text,
     VmConfig,
 };
+use std::alloc::AllocError;
 
 /// Where a pause, a shutdown or a delete leads.
 #[derive(Clone, Copy, PartialEq, Eq)]
@@ -21,7 +24,7 @@ pub enum Role {
 
 /// A control call. Sessions make those of the API, `Settle` and `Bye`; runners and workers `Take`, `Hand`, `Reg` and
 /// `Mem`; any caller makes `Stop`.
-#[derive(Clone, PartialEq, Eq, Drop)]
+#[derive(PartialEq, Eq, Drop)]
 pub enum ControlCall {
     Ping,
     Info,
@@ -61,6 +64,47 @@ pub enum ControlCall {
     Stop,
 }
 
+impl Clone for ControlCall {
+    ghost is_clone = { λ a b. b ≡ a };
+
+    fn clone(&self) -> Result<ControlCall, AllocError> {
+        Ok(match self {
+            ControlCall::Ping => ControlCall::Ping,
+            ControlCall::Info => ControlCall::Info,
+            ControlCall::Counters => ControlCall::Counters,
+            ControlCall::Create(config) => ControlCall::Create(config.clone()?),
+            ControlCall::Boot => ControlCall::Boot,
+            ControlCall::Begin(goal) => ControlCall::Begin(*goal),
+            ControlCall::Settle => ControlCall::Settle,
+            ControlCall::Resume => ControlCall::Resume,
+            ControlCall::Resize { vcpus, ram } => ControlCall::Resize {
+                vcpus: *vcpus,
+                ram: *ram,
+            },
+            ControlCall::ResizeZone { zone, ram } => ControlCall::ResizeZone {
+                zone: zone.clone()?,
+                ram: *ram,
+            },
+            ControlCall::AddDisk(disk) => ControlCall::AddDisk(disk.clone()?),
+            ControlCall::Remove(id) => ControlCall::Remove(id.clone()?),
+            ControlCall::Snapshot(name) => ControlCall::Snapshot(name.clone()?),
+            ControlCall::Restore(name) => ControlCall::Restore(name.clone()?),
+            ControlCall::Bye => ControlCall::Bye,
+            ControlCall::Take(role) => ControlCall::Take(*role),
+            ControlCall::Hand(note) => ControlCall::Hand(note.clone()?),
+            ControlCall::Reg { context, access } => ControlCall::Reg {
+                context: *context,
+                access: *access,
+            },
+            ControlCall::Mem { slot, request } => ControlCall::Mem {
+                slot: *slot,
+                request: *request,
+            },
+            ControlCall::Stop => ControlCall::Stop,
+        })
+    }
+}
+
 /// A request to a memory device (VIRTIO 1.2, 5.15.6): its type, a guest address and a number of blocks.
 #[derive(Clone, Copy, PartialEq, Eq)]
 pub struct MemRequest {
@@ -85,7 +129,7 @@ pub struct BusyAt {
 }
 
 /// The answer of the control machine.
-#[derive(Clone, PartialEq, Eq, Drop)]
+#[derive(PartialEq, Eq, Drop)]
 pub enum ControlReply {
     Done,
     Shown(Info),
@@ -102,8 +146,30 @@ pub enum ControlReply {
     Restored(Bytes),
 }
 
+impl Clone for ControlReply {
+    ghost is_clone = { λ a b. b ≡ a };
+
+    fn clone(&self) -> Result<ControlReply, AllocError> {
+        Ok(match self {
+            ControlReply::Done => ControlReply::Done,
+            ControlReply::Shown(info) => ControlReply::Shown(info.clone()?),
+            ControlReply::Counted(counts) => ControlReply::Counted(counts.clone()?),
+            ControlReply::Added { id, slot } => ControlReply::Added {
+                id: id.clone()?,
+                slot: *slot,
+            },
+            ControlReply::Holding => ControlReply::Holding,
+            ControlReply::Ruled(rule) => ControlReply::Ruled(*rule),
+            ControlReply::Taken(note) => ControlReply::Taken(*note),
+            ControlReply::Value(value) => ControlReply::Value(*value),
+            ControlReply::Answer(answer) => ControlReply::Answer(*answer),
+            ControlReply::Restored(image) => ControlReply::Restored(image.clone()?),
+        })
+    }
+}
+
 /// One entry of the control history.
-#[derive(Clone, PartialEq, Eq, Drop)]
+#[derive(PartialEq, Eq, Drop)]
 pub struct ControlEntry {
     /// 0 is the main thread, 1 to 16 are sessions, 17 + n is the runner of vCPU n, 33 and 34 are the workers.
     pub caller: u32,

@@ -112,7 +112,7 @@ pub struct Scene {
 }
 
 /// A request of a session: by the route's name, or the bytes of the stream themselves.
-#[derive(PartialEq, Eq, Drop)]
+#[derive(Drop)]
 pub enum Asked {
     Get(Text),
     Put { name: Text, body: Option<Bytes> },
