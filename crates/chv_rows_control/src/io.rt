@@ -1,4 +1,5 @@
-ghost use Rattle.std.specs.Prelude.{◌≡◌, None};
+ghost use Rattle.std.specs.Prelude.{◌≡◌, All, IfOk, None};
+ghost use Rattle.chv_io.specs.MemListener.{IsFresh};
 
 use chv_defs::{Bytes, Row};
 use chv_io::{
@@ -10,30 +11,25 @@ use std::alloc::{AllocError, Global};
 use std::io::{Error, ErrorKind, Read, Write};
 use std::test::Fail;
 
-/// Takes pieces of three bytes up to the end or a fault: the bytes, and whether the end came.
-fn drain<S: Source>(alloc: Global, source: &mut S) -> Result<(Vec<u8>, bool), AllocError> {
-    let mut all = Vec::new(alloc);
-    let mut piece = [0; 3];
-    for _ in 0..1000 {
-        match source.take(&mut piece) {
-            Ok(0) => return Ok((all, true)),
-            Ok(count) => all.extend_from_slice(&piece[..count])?,
-            Err(Failed) => return Ok((all, false)),
-        }
+/// Whether a read came so: with these bytes, of which there are none at the end, or as a fault.
+fn is_piece(came: Result<usize, Failed>, buf: &[u8], piece: Option<&[u8]>) -> bool {
+    match (came, piece) {
+        (Ok(count), Some(bytes)) => bytes.len() == count && buf.starts_with(bytes),
+        (Err(Failed), None) => true,
+        _ => false,
     }
-    Ok((all, false))
 }
 
-/// Whether the source gives these bytes, then its end or a fault, and has had so many faults then.
-fn gives<S: Source>(
-    alloc: Global,
-    source: &mut S,
-    want: &[u8],
-    end: bool,
-    faults: u64,
-) -> Result<bool, AllocError> {
-    let (bytes, ended) = drain(alloc, source)?;
-    Ok(bytes.as_slice() == want && ended == end && source.source_faults() == faults)
+/// Whether reads of up to three bytes come so, one after another.
+fn gives<S: Source>(source: &mut S, pieces: &[Option<&[u8]>]) -> bool {
+    let mut buf = [0; 3];
+    for piece in pieces {
+        let came = source.take(&mut buf);
+        if !is_piece(came, &buf, *piece) {
+            return false;
+        }
+    }
+    true
 }
 
 /// Puts three pieces, says for each whether it was taken, and then how many faults there were.
@@ -56,11 +52,18 @@ fn accept<L: Listener>(listener: &mut L) -> ([bool; 3], u64)
     ([true, first, second], listener.listen_faults())
 }
 
-/// The same of a listener with one connection to give. The numbers are those of the calls that fail.
-fn serve(alloc: Global, fail: &[u64]) -> Result<([bool; 3], u64), AllocError> {
+/// One connection.
+fn links(alloc: Global) -> Result<Vec<MemLink>, AllocError>
+    ensures { IfOk result (λ links. All IsFresh links.items) }
+{
     let mut links = Vec::new(alloc);
     links.push(MemLink::new(alloc, Bytes::of(alloc, b"x")?, 1, 0, Row::empty(alloc))?)?;
-    let mut listener = MemListener::new(links, numbers(alloc, fail)?);
+    Ok(links)
+}
+
+/// The same of a listener with one connection to give. The numbers are those of the calls that fail.
+fn serve(alloc: Global, fail: &[u64]) -> Result<([bool; 3], u64), AllocError> {
+    let mut listener = MemListener::new(links(alloc)?, numbers(alloc, fail)?);
     Ok(accept(&mut listener))
 }
 
@@ -104,19 +107,12 @@ impl Write for Narrow {
     }
 }
 
-fn comes_in_three<S: Source>(alloc: Global, source: &mut S) -> Result<bool, AllocError> {
-    Ok(
-        gives(alloc, source, b"hel", false, 1)?
-            && gives(alloc, source, b"", false, 2)?
-            && gives(alloc, source, b"lo", true, 2)?,
-    )
-}
-
 #[test]
 fn source_in_memory(rt: HostRuntime) -> Result<(), Fail> {
     let alloc = rt.alloc();
     let mut source = MemSource::new(Bytes::of(alloc, b"hello")?, numbers(alloc, &[2, 3])?);
-    assert!(rt; comes_in_three(alloc, &mut source)?);
+    assert!(rt; gives(&mut source, &[Some(b"hel"), None, None, Some(b"lo"), Some(b"")]));
+    assert!(rt; source.source_faults() == 2);
     Ok(())
 }
 
@@ -171,7 +167,8 @@ fn hello(alloc: Global) -> Result<MemLink, AllocError> {
 fn link_in_memory(rt: HostRuntime) -> Result<(), Fail> {
     let mut link = hello(rt.alloc())?;
     assert!(rt; reads(&mut link) && writes(&mut link) && closes(&mut link));
-    assert!(rt; gives(rt.alloc(), &mut link, b"llo", true, 2)?);
+    assert!(rt; gives(&mut link, &[Some(b"ll"), Some(b"o"), Some(b"")]));
+    assert!(rt; link.source_faults() == 2);
     Ok(())
 }
 
@@ -188,10 +185,10 @@ fn listener_in_memory(rt: HostRuntime) -> Result<(), Fail> {
 #[test]
 fn source_over_a_reader(rt: HostRuntime) -> Result<(), Fail> {
     let mut source = StdSource::new(b"hello".as_slice());
-    assert!(rt; gives(rt.alloc(), &mut source, b"hello", true, 0)?);
+    assert!(rt; gives(&mut source, &[Some(b"hel"), Some(b"lo"), Some(b"")]));
     // An interrupted read is tried again, and an error is a fault and no end.
     let mut source = StdSource::new(Shaky { calls: 0 });
-    assert!(rt; gives(rt.alloc(), &mut source, b"x", false, 1)?);
+    assert!(rt; gives(&mut source, &[Some(b"x"), None]) && source.source_faults() == 1);
     Ok(())
 }
 

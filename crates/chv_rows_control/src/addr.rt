@@ -94,12 +94,6 @@ const WORKED: [LookUp; 5] = [
     (0x1_0020_0000, 1, Place::Hole),
 ];
 
-#[test]
-fn worked_look_ups(rt: HostRuntime) -> Result<(), Fail> {
-    assert!(rt; finds(rt.alloc(), &[(3_223_322_624, 0)], &WORKED)?);
-    Ok(())
-}
-
 const WINDOWS: [LookUp; 16] = [
     (0xe000_ffff, 1, Place::Hole),
     (0xe000_ffff, 2, Place::Crosses),
@@ -118,12 +112,6 @@ const WINDOWS: [LookUp; 16] = [
     (u64::MAX, u64::MAX, Place::Crosses),
     (0xe001_0000, 0, Place::Crosses),
 ];
-
-#[test]
-fn edges_of_windows(rt: HostRuntime) -> Result<(), Fail> {
-    assert!(rt; finds(rt.alloc(), &[(4 * MIB, 0)], &WINDOWS)?);
-    Ok(())
-}
 
 const FIXED: [LookUp; 9] = [
     (0, 1, ram!(0, 0, 0)),
@@ -155,15 +143,6 @@ const PAST: [LookUp; 5] = [
     (0x1_0840_0000, 1, Place::Hole),
 ];
 
-#[test]
-fn edges_of_one_zone(rt: HostRuntime) -> Result<(), Fail> {
-    let alloc = rt.alloc();
-    assert!(rt; finds(alloc, &[(4 * MIB, 0)], &FIXED)?);
-    assert!(rt; finds(alloc, &[(GIB, 2 * GIB)], &GROWS)?);
-    assert!(rt; finds(alloc, &[(3 * GIB + 2 * MIB, 4 * MIB)], &PAST)?);
-    Ok(())
-}
-
 const SECOND_STRADDLES: [LookUp; 8] = [
     (0x7fff_ffff, 1, ram!(0, 1023, 2_097_151)),
     (0x7fff_ffff, 2, Place::Crosses),
@@ -193,15 +172,6 @@ const BOTH_GROW: [LookUp; 7] = [
     (0x1_0840_0000, 1, Place::Hole),
 ];
 
-#[test]
-fn edges_of_two_zones(rt: HostRuntime) -> Result<(), Fail> {
-    let alloc = rt.alloc();
-    assert!(rt; finds(alloc, &[(2 * GIB, 0), (2 * GIB, 0)], &SECOND_STRADDLES)?);
-    assert!(rt; finds(alloc, &[(4 * GIB, 0), (2 * MIB, 0)], &FIRST_STRADDLES)?);
-    assert!(rt; finds(alloc, &[(2 * MIB, 2 * MIB), (2 * MIB, 4 * MIB)], &BOTH_GROW)?);
-    Ok(())
-}
-
 const BOOT: [LookUp; 6] = [
     (0xbfff_ffff, 1, ram!(5, 255, 2_097_151)),
     (0xc000_0000, 1, Place::Hole),
@@ -224,12 +194,27 @@ const EIGHT: [Zone; 8] = [(512 * MIB, 0); 8];
 
 const EIGHT_THAT_GROW: [Zone; 8] = [(512 * MIB, 130 * MIB); 8];
 
+/// Zones, and look-ups in their map.
+const MAPS: [(&[Zone], &[LookUp]); 12] = [
+    (&[(3_223_322_624, 0)], &WORKED),
+    (&[(4 * MIB, 0)], &WINDOWS),
+    (&[(4 * MIB, 0)], &FIXED),
+    (&[(GIB, 2 * GIB)], &GROWS),
+    (&[(3 * GIB + 2 * MIB, 4 * MIB)], &PAST),
+    (&[(2 * GIB, 0), (2 * GIB, 0)], &SECOND_STRADDLES),
+    (&[(4 * GIB, 0), (2 * MIB, 0)], &FIRST_STRADDLES),
+    (&[(2 * MIB, 2 * MIB), (2 * MIB, 4 * MIB)], &BOTH_GROW),
+    (&EIGHT, &BOOT),
+    (&EIGHT, &[(0x1_4000_0000, 1, Place::Hole)]),
+    (&EIGHT_THAT_GROW, &BOOT),
+    (&EIGHT_THAT_GROW, &PLUGGED),
+];
+
 #[test]
-fn edges_of_eight_zones(rt: HostRuntime) -> Result<(), Fail> {
-    assert!(rt; finds(rt.alloc(), &EIGHT, &BOOT)?);
-    assert!(rt; finds(rt.alloc(), &EIGHT, &[(0x1_4000_0000, 1, Place::Hole)])?);
-    assert!(rt; finds(rt.alloc(), &EIGHT_THAT_GROW, &BOOT)?);
-    assert!(rt; finds(rt.alloc(), &EIGHT_THAT_GROW, &PLUGGED)?);
+fn look_ups(rt: HostRuntime) -> Result<(), Fail> {
+    for (k, (zones, wanted)) in MAPS.iter().enumerate() {
+        assert!(rt; finds(rt.alloc(), *zones, *wanted)?, "row {k}");
+    }
     Ok(())
 }
 
