@@ -63,19 +63,19 @@ fn falls_into(control: Control<MemDisk>, entries: usize) -> bool {
     history.len() == entries && start.sessions == 2 && start.disks.len() == 1
 }
 
+// They have no bodies.
+fn laws() {
+    refusals_change_nothing();
+    answers_fit();
+    refused_calls_change_nothing();
+    states_stay_well_formed();
+}
+
 #[test]
 fn a_full_book_keeps_a_place_for_the_stop(rt: HostRuntime) -> Result<(), Fail> {
     let mut control = fresh(rt.alloc())?;
     assert!(rt; fills_up(&mut control)?);
     assert!(rt; falls_into(control, 1_048_576));
-    Ok(())
-}
-
-#[test]
-fn laws(_rt: HostRuntime) -> Result<(), Fail> {
-    refusals_change_nothing();
-    answers_fit();
-    refused_calls_change_nothing();
-    states_stay_well_formed();
+    laws();
     Ok(())
 }

@@ -107,13 +107,10 @@ impl Write for Narrow {
     }
 }
 
-#[test]
-fn source_in_memory(rt: HostRuntime) -> Result<(), Fail> {
-    let alloc = rt.alloc();
+fn source_in_memory(alloc: Global) -> Result<bool, AllocError> {
     let mut source = MemSource::new(Bytes::of(alloc, b"hello")?, numbers(alloc, &[2, 3])?);
-    assert!(rt; gives(&mut source, &[Some(b"hel"), None, None, Some(b"lo"), Some(b"")]));
-    assert!(rt; source.source_faults() == 2);
-    Ok(())
+    let pieces = [Some(b"hel".as_slice()), None, None, Some(b"lo"), Some(b"")];
+    Ok(gives(&mut source, &pieces) && source.source_faults() == 2)
 }
 
 /// Whether an output with so much room, whose call of this number fails (0 is none), takes these of the three pieces, so
@@ -129,46 +126,52 @@ fn takes(
     Ok(fill(&mut sink) == (pieces, 1) && sink.written() == written)
 }
 
-#[test]
-fn sink_in_memory(rt: HostRuntime) -> Result<(), Fail> {
-    // Room for five bytes: the second piece would pass it by one.
-    assert!(rt; takes(rt.alloc(), 5, 0, [true, false, true], b"abg")?);
-    assert!(rt; takes(rt.alloc(), 100, 3, [true, true, false], b"abcdef")?);
-    Ok(())
-}
-
-fn reads(link: &mut MemLink) -> bool {
+fn is_talked_over(link: &mut MemLink) -> bool {
     let mut buf = [0; 4];
-    read_from(link, &mut buf) == Ok(2) && read_from(link, &mut buf) == Err(Failed)
-}
-
-fn writes(link: &mut MemLink) -> bool {
-    write_to(link, b"abc") == Ok(()) && write_to(link, b"d") == Err(Failed)
-}
-
-fn closes(link: &mut MemLink) -> bool {
+    let reads = read_from(link, &mut buf) == Ok(2) && read_from(link, &mut buf) == Err(Failed);
+    let writes = write_to(link, b"abc") == Ok(()) && write_to(link, b"d") == Err(Failed);
     let was_closed = link.is_closed();
     link.close();
-    !was_closed && link.is_closed() && link.written() == b"abc".as_slice()
+    reads && writes && !was_closed && link.is_closed() && link.written() == b"abc".as_slice()
 }
 
-/// A connection that has two of five bytes a read, and room for three.
-fn hello(alloc: Global) -> Result<MemLink, AllocError> {
-    MemLink::new(
-        alloc,
-        Bytes::of(alloc, b"hello")?,
-        2,
-        3,
-        numbers(alloc, &[2])?,
+/// A connection that has two of five bytes a read, whose second fails, and room for three.
+fn link_in_memory(alloc: Global) -> Result<bool, AllocError> {
+    let hello = Bytes::of(alloc, b"hello")?;
+    let mut link = MemLink::new(alloc, hello, 2, 3, numbers(alloc, &[2])?)?;
+    Ok(
+        is_talked_over(&mut link)
+            && gives(&mut link, &[Some(b"ll"), Some(b"o"), Some(b"")])
+            && link.source_faults() == 2,
     )
 }
 
+/// An interrupted read is tried again, and an error is a fault and no end.
+fn source_over_a_reader() -> bool {
+    let mut hello = StdSource::new(b"hello".as_slice());
+    let mut shaky = StdSource::new(Shaky { calls: 0 });
+    gives(&mut hello, &[Some(b"hel"), Some(b"lo"), Some(b"")])
+        && hello.source_faults() == 0
+        && gives(&mut shaky, &[Some(b"x"), None])
+        && shaky.source_faults() == 1
+}
+
+fn sink_over_a_writer(alloc: Global) -> bool {
+    let mut written = Vec::new(alloc);
+    let mut sink = StdSink::new(&mut written);
+    let filled = fill(&mut sink);
+    filled == ([true, true, true], 0) && written.as_slice() == b"abcdefg".as_slice()
+}
+
 #[test]
-fn link_in_memory(rt: HostRuntime) -> Result<(), Fail> {
-    let mut link = hello(rt.alloc())?;
-    assert!(rt; reads(&mut link) && writes(&mut link) && closes(&mut link));
-    assert!(rt; gives(&mut link, &[Some(b"ll"), Some(b"o"), Some(b"")]));
-    assert!(rt; link.source_faults() == 2);
+fn inputs_and_outputs(rt: HostRuntime) -> Result<(), Fail> {
+    assert!(rt; source_in_memory(rt.alloc())? && link_in_memory(rt.alloc())?);
+    assert!(rt; source_over_a_reader() && sink_over_a_writer(rt.alloc()));
+    // A writer that takes nothing at last.
+    assert!(rt; fill(&mut StdSink::new(Narrow { left: 4 })) == ([true, false, false], 2));
+    // Room for five bytes: the second piece would pass it by one.
+    assert!(rt; takes(rt.alloc(), 5, 0, [true, false, true], b"abg")?);
+    assert!(rt; takes(rt.alloc(), 100, 3, [true, true, false], b"abcdef")?);
     Ok(())
 }
 
@@ -179,31 +182,5 @@ fn listener_in_memory(rt: HostRuntime) -> Result<(), Fail> {
     assert!(rt; serve(rt.alloc(), &[1])? == ([false, false, false], 1));
     // A listed call leaves the connection for the next.
     assert!(rt; serve(rt.alloc(), &[2])? == ([true, false, true], 1));
-    Ok(())
-}
-
-#[test]
-fn source_over_a_reader(rt: HostRuntime) -> Result<(), Fail> {
-    let mut source = StdSource::new(b"hello".as_slice());
-    assert!(rt; gives(&mut source, &[Some(b"hel"), Some(b"lo"), Some(b"")]));
-    // An interrupted read is tried again, and an error is a fault and no end.
-    let mut source = StdSource::new(Shaky { calls: 0 });
-    assert!(rt; gives(&mut source, &[Some(b"x"), None]) && source.source_faults() == 1);
-    Ok(())
-}
-
-#[test]
-fn sink_over_a_writer(rt: HostRuntime) -> Result<(), Fail> {
-    let mut written = Vec::new(rt.alloc());
-    let mut sink = StdSink::new(&mut written);
-    assert!(rt; fill(&mut sink) == ([true, true, true], 0));
-    assert!(rt; written.as_slice() == b"abcdefg".as_slice());
-    Ok(())
-}
-
-#[test]
-fn sink_over_a_writer_that_takes_nothing(rt: HostRuntime) -> Result<(), Fail> {
-    let mut sink = StdSink::new(Narrow { left: 4 });
-    assert!(rt; fill(&mut sink) == ([true, false, false], 2));
     Ok(())
 }

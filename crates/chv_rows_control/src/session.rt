@@ -2,9 +2,7 @@ ghost use Rattle.std.specs.Prelude.{◌≡◌, [], true, false, IfSome};
 ghost use Rattle.chv_defs.specs.Machine.{IsSession};
 ghost use Rattle.chv_defs.specs.Desks.{can_have, is_held};
 
-use chv_defs::{
-    Bytes, ControlCall, ControlReply, Desk, SessionEnd, SessionLog, Stopped, copy_of,
-};
+use chv_defs::{Bytes, ControlCall, ControlReply, Desk, SessionEnd, SessionLog, Stopped, copy_of};
 use chv_io::{Link, MemLink};
 use chv_samples::numbers;
 use chv_session::{Next, Session};
@@ -177,15 +175,6 @@ fn is_replied(
     Ok(left.put.as_slice() == replies && left.calls == calls)
 }
 
-#[test]
-fn replies(rt: HostRuntime) -> Result<(), Fail> {
-    for by_bytes in [false, true] {
-        // Ping, Begin, Settle, Bye.
-        assert!(rt; is_replied(rt.alloc(), TWO, by_bytes, TWO_REPLIES, 4)?);
-    }
-    Ok(())
-}
-
 /// A stream, the call of the connection that fails, the calls behind which the run stops, and the turns; then the end,
 /// and the number of calls.
 type End<'a> = (&'a [u8], u64, usize, usize, SessionEnd, usize);
@@ -240,7 +229,11 @@ fn ends_so(alloc: Global, end: &End) -> Result<bool, AllocError> {
 }
 
 #[test]
-fn ends(rt: HostRuntime) -> Result<(), Fail> {
+fn sessions(rt: HostRuntime) -> Result<(), Fail> {
+    for by_bytes in [false, true] {
+        // Ping, Begin, Settle, Bye.
+        assert!(rt; is_replied(rt.alloc(), TWO, by_bytes, TWO_REPLIES, 4)?);
+    }
     for (k, end) in ENDS.iter().enumerate() {
         assert!(rt; ends_so(rt.alloc(), end)?, "row {k}");
     }

@@ -14,6 +14,14 @@ use std::test::Fail;
 
 const BANK: BookId = BookId::Bank { zone: 1, bank: 2 };
 
+const SEALED: SliceEnd = SliceEnd::Sealed {
+    book: BANK,
+    block: 5,
+    seen: 9,
+};
+
+const BROKEN: SliceEnd = SliceEnd::Broken(QueueFault::RingClosed(4096));
+
 const QUEUE: QueueNote = QueueNote {
     slot: 2,
     last: 7,
@@ -76,33 +84,24 @@ fn push_reply(control: &mut Row<ControlEntry>, reply: ControlReply) -> Result<()
 }
 
 fn push_hand(
-    alloc: Global,
     control: &mut Row<ControlEntry>,
     end: SliceEnd,
-    order: &[BookId],
+    order: Vec<BookId>,
 ) -> Result<(), AllocError> {
-    let hand = HandNote {
-        note: ContextNote::Queue(QUEUE),
-        end,
-        order: Row::new(Vec::from_slice(alloc, order)?),
-    };
-    push_call(control, ControlCall::Hand(hand))
-}
-
-fn push_hands(alloc: Global, control: &mut Row<ControlEntry>) -> Result<(), AllocError> {
-    let sealed = SliceEnd::Sealed {
-        book: BANK,
-        block: 5,
-        seen: 9,
-    };
-    push_hand(alloc, control, sealed, &[BookId::Control, BANK])?;
-    let broken = SliceEnd::Broken(QueueFault::RingClosed(4096));
-    push_hand(alloc, control, broken, &[])
+    push_call(
+        control,
+        ControlCall::Hand(HandNote {
+            note: ContextNote::Queue(QUEUE),
+            end,
+            order: Row::new(order),
+        }),
+    )
 }
 
 fn push_calls(alloc: Global, control: &mut Row<ControlEntry>) -> Result<(), AllocError> {
     push_call(control, ControlCall::Take(Role::Vcpu(3)))?;
-    push_hands(alloc, control)?;
+    push_hand(control, SEALED, vec![in alloc; BookId::Control, BANK]?)?;
+    push_hand(control, BROKEN, Vec::new(alloc))?;
     push_call(
         control,
         ControlCall::Reg {
@@ -181,12 +180,6 @@ fn is_printed(alloc: Global, text: &str) -> Result<bool, AllocError> {
     Ok(print(alloc, &trace, &mut out).is_ok() && out.written() == text.as_bytes())
 }
 
-#[test]
-fn entries_and_sessions_have_their_lines(rt: HostRuntime) -> Result<(), Fail> {
-    assert!(rt; is_printed(rt.alloc(), TEXT)?);
-    Ok(())
-}
-
 /// How printing ends, and how many bytes are written.
 type Printed = (Result<(), PrintError>, usize);
 
@@ -201,11 +194,19 @@ fn ping(alloc: Global, asked: usize, failing: u64) -> Result<Printed, AllocError
     Ok((print(alloc, &trace, &mut out), out.written().len()))
 }
 
-#[test]
-fn an_output_that_fails_has_a_first_part(rt: HostRuntime) -> Result<(), Fail> {
-    assert!(rt; ping(rt.alloc(), 2, 1)? == (Err(PrintError::Failed), 0));
+// Whether an output that fails has a first part.
+fn breaks_off(alloc: Global) -> Result<bool, AllocError> {
     // 75 bytes stand before the pairs, so that the first piece has 32,731 of these.
-    assert!(rt; ping(rt.alloc(), 40_000, 2)? == (Err(PrintError::Failed), 65_537));
-    assert!(rt; ping(rt.alloc(), 40_000, 3)? == (Ok(()), 80_088));
+    Ok(
+        ping(alloc, 2, 1)? == (Err(PrintError::Failed), 0)
+            && ping(alloc, 40_000, 2)? == (Err(PrintError::Failed), 65_537)
+            && ping(alloc, 40_000, 3)? == (Ok(()), 80_088),
+    )
+}
+
+#[test]
+fn traces(rt: HostRuntime) -> Result<(), Fail> {
+    assert!(rt; is_printed(rt.alloc(), TEXT)?);
+    assert!(rt; breaks_off(rt.alloc())?);
     Ok(())
 }

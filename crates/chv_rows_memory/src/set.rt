@@ -18,14 +18,6 @@ fn is_alone(alloc: Global, block: u32) -> Result<bool, AllocError> {
 
 const BLOCKS: [u32; 5] = [0, 63, 64, 65, 32_767];
 
-#[test]
-fn sets_of_one_block(rt: HostRuntime) -> Result<(), Fail> {
-    for block in &BLOCKS {
-        assert!(rt; is_alone(rt.alloc(), *block)?, "{block}");
-    }
-    Ok(())
-}
-
 const RUN: Span = Span {
     first: 63,
     count: 3,
@@ -40,27 +32,36 @@ fn has_run_alone(set: &BlockSet) -> bool {
         && set.count() == 3
 }
 
-#[test]
-fn a_run_across_the_edge_of_a_word(rt: HostRuntime) -> Result<(), Fail> {
-    let mut set = BlockSet::new(rt.alloc(), 32_768)?;
+// Whether each call says the same of a run across the edge of a word.
+fn is_run(alloc: Global) -> Result<bool, AllocError> {
+    let mut set = BlockSet::new(alloc, 32_768)?;
     set.insert_range(RUN);
-    assert!(rt; has_run_alone(&set));
-    assert!(rt; set.ranges()?.as_slice() == [RUN].as_slice());
-    Ok(())
+    Ok(has_run_alone(&set) && set.ranges()?.as_slice() == [RUN].as_slice())
+}
+
+const WORD: Span = Span {
+    first: 0,
+    count: 64,
+};
+
+const ALL: Span = Span {
+    first: 0,
+    count: 32_768,
+};
+
+// Whether nothing is found in an empty set, and nothing is left of it.
+fn is_empty(alloc: Global) -> Result<bool, AllocError> {
+    let mut set = BlockSet::new(alloc, 32_768)?;
+    let first = set.first_in(WORD);
+    set.remove_range(ALL);
+    Ok(first == None && set.ranges()?.is_empty())
 }
 
 #[test]
-fn nothing_is_left_of_an_empty_set(rt: HostRuntime) -> Result<(), Fail> {
-    let mut set = BlockSet::new(rt.alloc(), 32_768)?;
-    let word = Span {
-        first: 0,
-        count: 64,
-    };
-    assert!(rt; set.first_in(word) == None);
-    set.remove_range(Span {
-        first: 0,
-        count: 32_768,
-    });
-    assert!(rt; set.ranges()?.is_empty());
+fn sets(rt: HostRuntime) -> Result<(), Fail> {
+    for block in &BLOCKS {
+        assert!(rt; is_alone(rt.alloc(), *block)?, "{block}");
+    }
+    assert!(rt; is_run(rt.alloc())? && is_empty(rt.alloc())?);
     Ok(())
 }
