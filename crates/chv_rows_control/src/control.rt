@@ -19,24 +19,16 @@ fn fresh(alloc: Global) -> Result<Control<MemDisk>, Fail> {
     }
 }
 
-// So many Pings of a session; whether each was answered.
-fn ping(control: &mut Control<MemDisk>, count: u32) -> Result<bool, AllocError> {
-    for _ in 0..count {
-        if control.apply(1, &ControlCall::Ping)?.is_err() {
-            return Ok(false);
-        }
-    }
-    Ok(true)
-}
+// How full the book is: no room is left but the place for a Stop.
+const FULL: Inner = Inner::Full(Full {
+    book: BookId::Control,
+    entries: 1_048_576,
+    bytes: 0,
+});
 
-// Whether the book is full at so many entries and no bytes.
-fn is_full(control: &mut Control<MemDisk>, entries: u64) -> Result<bool, AllocError> {
-    let full = Full {
-        book: BookId::Control,
-        entries,
-        bytes: 0,
-    };
-    Ok(control.apply(1, &ControlCall::Ping)? == Err(Inner::Full(full)))
+// A Ping of a session: why it makes no entry, where it makes none.
+fn ping(control: &mut Control<MemDisk>) -> Result<Option<Inner>, AllocError> {
+    Ok(control.apply(1, &ControlCall::Ping)?.err())
 }
 
 // Whether a Stop is entered.
@@ -45,16 +37,16 @@ fn stops(control: &mut Control<MemDisk>) -> Result<bool, AllocError> {
         return Ok(false);
     }
     let answer = control.apply(0, &ControlCall::Stop)?;
-    Ok(answer == Ok(ControlReply::Done))
+    Ok(matches!(answer, Ok(ControlReply::Done)))
 }
 
 fn fills_up(control: &mut Control<MemDisk>) -> Result<bool, AllocError> {
-    Ok(
-        ping(control, 1_048_575)?
-            && is_full(control, 1_048_576)?
-            && stops(control)?
-            && control.history().len() == 1_048_576,
-    )
+    for _ in 0..1_048_575 {
+        if ping(control)?.is_some() {
+            return Ok(false);
+        }
+    }
+    Ok(ping(control)? == Some(FULL) && stops(control)? && control.history().len() == 1_048_576)
 }
 
 // Whether a control value falls into so many entries, two sessions and one disk.

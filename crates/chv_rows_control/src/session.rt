@@ -1,4 +1,4 @@
-ghost use Rattle.std.specs.Prelude.{◌≡◌, [], true, false, IfSome};
+ghost use Rattle.std.specs.Prelude.{◌≡◌, ◌++◌, ◌∷◌, [], true, false, IfOk, IfSome, OnErr, OnOk};
 ghost use Rattle.chv_defs.specs.Machine.{IsSession};
 ghost use Rattle.chv_defs.specs.Desks.{can_have, is_held};
 
@@ -59,6 +59,20 @@ impl TestDesk {
             _ => None,
         }
     }
+
+    /// Keeps a call with its answer. An `Err` keeps none.
+    fn keep(&mut self, call: &ControlCall, reply: &ControlReply) -> Result<(), AllocError>
+        ensures ok { OnOk result (self.new.made.items ≡ self.old.made.items ++ record { call = call.now; reply = reply.now } ∷ []) }
+        ensures err { OnErr result (self.new.made.items ≡ self.old.made.items) }
+        ensures refused { self.new.refused ≡ self.old.refused }
+    {
+        let made = Made {
+            call: copy_of(call)?,
+            reply: copy_of(reply)?,
+        };
+        self.made.push(made)?;
+        Ok(())
+    }
 }
 
 impl Desk<()> for TestDesk {
@@ -75,15 +89,33 @@ impl Desk<()> for TestDesk {
         _rt: (),
         call: &ControlCall,
     ) -> Result<Result<ControlReply, Stopped>, AllocError> {
-        let Some(reply) = self.reply_to(call) else {
-            self.refused = Some(copy_of(call)?);
-            return Ok(Err(Stopped));
-        };
-        self.made.push(Made {
-            call: copy_of(call)?,
-            reply: copy_of(&reply)?,
-        })?;
-        Ok(Ok(reply))
+        match self.reply_to(call) {
+            Some(reply) => {
+                self.keep(call, &reply)?;
+                Ok(Ok(reply))
+            }
+            None => {
+                self.refused = Some(copy_of(call)?);
+                Ok(Err(Stopped))
+            }
+        }
+    }
+}
+
+/// Makes one turn of a session; whether it answered a request.
+fn answers<K: Link, T: Desk<()>>(
+    session: &mut Session,
+    link: &mut K,
+    desk: &mut T,
+) -> Result<bool, AllocError>
+    requires session { IsSession (T.caller desk.old) }
+    requires settled { is_held (T.answers desk.old) ≡ false }
+    ensures caller { T.caller desk.new ≡ T.caller desk.old }
+    ensures settled { IfOk result (λ answered. answered ≡ true → is_held (T.answers desk.new) ≡ false) }
+{
+    match session.next((), link, desk)? {
+        Next::Answered => Ok(true),
+        Next::Ended(_) => Ok(false),
     }
 }
 
@@ -98,9 +130,8 @@ fn run<K: Link, T: Desk<()>>(
     requires settled { is_held (T.answers desk.old) ≡ false }
 {
     for _ in 0..turns {
-        match session.next((), link, desk)? {
-            Next::Answered => {}
-            Next::Ended(_) => return Ok(()),
+        if !answers(session, link, desk)? {
+            return Ok(());
         }
     }
     Ok(())
