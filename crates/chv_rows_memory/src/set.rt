@@ -1,42 +1,32 @@
 // One small set of each kind. The contracts say the rest.
+ghost use Rattle.std.specs.Prelude.{◌+◌, ◌<◌, ◌≤◌};
+
 use chv_defs::Span;
 use chv_set::BlockSet;
 use std::alloc::{AllocError, Global};
 use std::test::Fail;
 
-// Whether each call says the same of a set of this one block.
-fn is_alone(alloc: Global, block: u32) -> Result<bool, AllocError> {
-    let alone = Span {
-        first: block % 32_768,
-        count: 1,
-    };
-    let mut set = BlockSet::new(alloc, 32_768)?;
-    set.insert_range(alone);
-    let is_found = set.has(block) && set.count() == 1;
-    Ok(is_found && set.ranges()?.as_slice() == [alone].as_slice())
+// Whether a set has these blocks and none beside them.
+fn has_alone(set: &BlockSet, first: u32, count: u32) -> bool
+    requires some { 0 < count }
+    requires inside { first + count ≤ 32768 }
+{
+    set.has(first)
+        && set.has(first + count - 1)
+        && (first == 0 || !set.has(first - 1))
+        && !set.has(first + count)
+        && set.count() == count
 }
 
-const BLOCKS: [u32; 5] = [0, 63, 64, 65, 32_767];
-
-const RUN: Span = Span {
-    first: 63,
-    count: 3,
-};
-
-fn has_run_alone(set: &BlockSet) -> bool {
-    set.has(63)
-        && set.has(65)
-        && !set.has(62)
-        && !set.has(66)
-        && !set.has(32_768)
-        && set.count() == 3
-}
-
-// Whether each call says the same of a run across the edge of a word.
-fn is_run(alloc: Global) -> Result<bool, AllocError> {
+// Whether each call says the same of a set of these blocks.
+fn is_alone(alloc: Global, first: u32, count: u32) -> Result<bool, AllocError>
+    requires some { 0 < count }
+    requires inside { first + count ≤ 32768 }
+{
+    let span = Span { first, count };
     let mut set = BlockSet::new(alloc, 32_768)?;
-    set.insert_range(RUN);
-    Ok(has_run_alone(&set) && set.ranges()?.as_slice() == [RUN].as_slice())
+    set.insert_range(span);
+    Ok(has_alone(&set, first, count) && set.ranges()?.as_slice() == [span].as_slice())
 }
 
 const WORD: Span = Span {
@@ -59,9 +49,11 @@ fn is_empty(alloc: Global) -> Result<bool, AllocError> {
 
 #[test]
 fn sets(rt: HostRuntime) -> Result<(), Fail> {
-    for block in &BLOCKS {
-        assert!(rt; is_alone(rt.alloc(), *block)?, "{block}");
-    }
-    assert!(rt; is_run(rt.alloc())? && is_empty(rt.alloc())?);
+    let alloc = rt.alloc();
+    assert!(rt; is_alone(alloc, 0, 1)? && is_alone(alloc, 63, 1)? && is_alone(alloc, 64, 1)?);
+    assert!(rt; is_alone(alloc, 65, 1)? && is_alone(alloc, 32_767, 1)?);
+    // A run across the edge of a word.
+    assert!(rt; is_alone(alloc, 63, 3)?);
+    assert!(rt; is_empty(alloc)?);
     Ok(())
 }
