@@ -1,34 +1,25 @@
 // An unplug from its pin to the next plug, the refusals in their order, and each call once with ample memory.
-ghost use Rattle.chv_bank.specs.Bank.{fresh, with_entry, HasItsNumber};
+ghost use Rattle.chv_bank.specs.Bank.{fresh, owner_reply, pages_used, with_entry, HasItsNumber};
 ghost use Rattle.chv_defs.specs.BankState.{is_owner_call, IsCall};
-ghost use Rattle.chv_defs.specs.LegalBank.{access_reply};
+ghost use Rattle.chv_defs.specs.LegalBank.{access_reply, OwnerMay};
 ghost use Rattle.chv_defs.specs.declared.bank.BankCall.TheVariants as call;
 ghost use Rattle.chv_defs.specs.declared.bank.BankReply.TheVariants as reply;
-ghost use Rattle.std.specs.Prelude.{◌≡◌, ◌<◌, ◌≤◌, ℕ, List, [], ◌∷◌, false, IfOk, length};
+ghost use Rattle.std.specs.Prelude.{◌≡◌, ◌-◌, ◌<◌, ◌≤◌, [], ◌∷◌, true, false, IfOk, length};
 
 use chv_bank::Bank;
 use chv_defs::{BankCall, BankReply, BookId, Bytes, Full, Refusal, Span};
 use std::alloc::{AllocError, Global};
 use std::test::Fail;
 
-// A proof is cheap where a bank is lent, and dear where it is owned. So a case is played on a bank that it is lent, and
-// says whether all came as it should.
-fn comes<F: FnOnce(Global, &mut Bank) -> Result<bool, Fail>>(
-    alloc: Global,
-    case: F,
-) -> Result<bool, Fail>
-    requires { (bank : _) → bank.now ≡ fresh 0 0 → F.pre case alloc bank }
-{
-    let mut bank = Bank::new(alloc, 0, 0)?;
-    case(alloc, &mut bank)
-}
+// A proof is cheap where a bank, calls and replies are lent or given away, and dear where they are owned. So each of these
+// takes the call and the reply that it should have, and says whether it had it.
 
 // Opens the blocks below a number, and leaves places for further entries of the owner.
-fn shape(bank: &mut Bank, places: u32, blocks: u32) -> Result<(), Fail>
+fn shape(bank: &mut Bank, places: u32, blocks: u32) -> Result<bool, AllocError>
     requires fresh { bank.old ≡ fresh 0 0 }
     requires places { places < 1048576 }
     requires blocks { blocks ≤ 32768 }
-    ensures { IfOk result (λ _. bank.new ≡ record {
+    ensures { IfOk result (λ done. done ≡ true → bank.new ≡ record {
       zone = 0;
       bank = 0;
       history = record { caller = 0; call = call.Shape blocks; reply = reply.Done } ∷ [];
@@ -36,34 +27,67 @@ fn shape(bank: &mut Bank, places: u32, blocks: u32) -> Result<(), Fail>
       pages = 0;
     }) }
 {
-    bank.room(places + 1, 0)??;
+    if bank.room(places + 1, 0)?.is_err() {
+        return Ok(false);
+    }
     bank.owner(&BankCall::Shape(blocks));
-    Ok(())
+    Ok(true)
 }
 
-// An access that is not refused.
-fn access(bank: &mut Bank, caller: u32, call: &BankCall) -> Result<BankReply, Fail>
-    requires caller { 0 < caller }
-    requires call { IsCall bank.old.bank call.now }
-    requires access { is_owner_call call.now ≡ false }
-    requires number { HasItsNumber bank.old.history caller call.now }
-    ensures reply { IfOk result (λ reply. reply ≡ access_reply bank.old.bank bank.old.history call.now) }
-    ensures entry { IfOk result (λ reply. bank.new ≡ record bank.old { history = with_entry bank.old.history caller call.now reply }) }
+// A call of the owner.
+fn owner(bank: &mut Bank, call: BankCall, expected: BankReply) -> bool
+    requires call { IsCall bank.old.bank call }
+    requires owner { is_owner_call call ≡ true }
+    requires condition { OwnerMay bank.old.bank bank.old.history call }
+    requires entry { 0 < bank.old.entries }
+    requires page { pages_used call ≤ bank.old.pages }
+    ensures { bank.new ≡ record bank.old {
+      history = with_entry bank.old.history 0 call (owner_reply bank.old.bank bank.old.history call);
+      entries = bank.old.entries - 1;
+      pages = bank.old.pages - pages_used call;
+    } }
 {
-    Ok(bank.access(caller, call)??)
+    bank.owner(&call) == expected
+}
+
+// An access that is answered.
+fn access(
+    bank: &mut Bank,
+    caller: u32,
+    call: BankCall,
+    expected: BankReply,
+) -> Result<bool, AllocError>
+    requires caller { 0 < caller }
+    requires call { IsCall bank.old.bank call }
+    requires access { is_owner_call call ≡ false }
+    requires number { HasItsNumber bank.old.history caller call }
+    ensures { IfOk result (λ answered. answered ≡ true → bank.new ≡ record bank.old {
+      history =
+          with_entry bank.old.history caller call (access_reply bank.old.bank bank.old.history call);
+    }) }
+{
+    match bank.access(caller, &call)? {
+        Ok(reply) => Ok(reply == expected),
+        Err(_) => Ok(false),
+    }
 }
 
 // An access that is refused.
-fn refusal(bank: &mut Bank, caller: u32, call: &BankCall) -> Result<Refusal, Fail>
+fn refuses(
+    bank: &mut Bank,
+    caller: u32,
+    call: BankCall,
+    expected: Refusal,
+) -> Result<bool, AllocError>
     requires caller { 0 < caller }
-    requires call { IsCall bank.old.bank call.now }
-    requires access { is_owner_call call.now ≡ false }
-    requires number { HasItsNumber bank.old.history caller call.now }
-    ensures { IfOk result (λ why. bank.new ≡ bank.old) }
+    requires call { IsCall bank.old.bank call }
+    requires access { is_owner_call call ≡ false }
+    requires number { HasItsNumber bank.old.history caller call }
+    ensures { IfOk result (λ refused. refused ≡ true → bank.new ≡ bank.old) }
 {
-    match bank.access(caller, call)? {
-        Ok(_) => Err("not refused".into()),
-        Err(why) => Ok(why),
+    match bank.access(caller, &call)? {
+        Ok(_) => Ok(false),
+        Err(why) => Ok(why == expected),
     }
 }
 
@@ -88,151 +112,90 @@ fn pin_of(first: u32, count: u32) -> BankCall
     }
 }
 
+fn got(alloc: Global, bytes: &[u8]) -> Result<BankReply, AllocError> {
+    Ok(BankReply::Got(Bytes::of(alloc, bytes)?))
+}
+
 // A Write of one byte into block 0.
-fn write(alloc: Global, bank: &mut Bank, offset: u32, byte: u8) -> Result<BankReply, Fail>
+fn write(alloc: Global, bank: &mut Bank, offset: u32, byte: u8) -> Result<bool, AllocError>
     requires here { bank.old.bank ≡ 0 }
     requires offset { offset < 2097152 }
-    ensures reply { IfOk result (λ reply. reply ≡ access_reply bank.old.bank bank.old.history (call.Write 0 offset (byte ∷ []))) }
-    ensures entry { IfOk result (λ reply. bank.new ≡ record bank.old { history = with_entry bank.old.history 1 (call.Write 0 offset (byte ∷ [])) reply }) }
+    ensures { IfOk result (λ done. done ≡ true → bank.new ≡ record bank.old {
+      history =
+          with_entry bank.old.history 1 (call.Write 0 offset (byte ∷ [])) (access_reply 0 bank.old.history (call.Write 0 offset (byte ∷ [])));
+    }) }
 {
     let write = BankCall::Write {
         block: 0,
         offset,
         bytes: Bytes::of(alloc, &[byte])?,
     };
-    access(bank, 1, &write)
+    access(bank, 1, write, BankReply::Done)
 }
 
-fn has_got(reply: &BankReply, bytes: &[u8]) -> bool {
-    match reply {
-        BankReply::Got(got) => got.as_slice() == bytes,
-        _ => false,
-    }
-}
-
-fn busy(_alloc: Global, bank: &mut Bank) -> Result<bool, Fail>
+// A pinned block is busy. One that is not pinned any more is sealed and closed, and faults then.
+fn unplugged(bank: &mut Bank) -> Result<bool, AllocError>
     requires { bank.old ≡ fresh 0 0 }
 {
     let span = Span {
         first: 512,
         count: 1,
     };
-    shape(bank, 1, 513)?;
-    let pinned = access(bank, 18, &pin_of(512, 1))?;
-    let sealed = bank.owner(&BankCall::Seal(span));
     let busy = BankReply::Busy {
         block: 512,
         caller: 18,
     };
-    Ok(pinned == BankReply::Pinned && sealed == busy)
+    Ok(
+        shape(bank, 3, 513)?
+            && access(bank, 18, pin_of(512, 1), BankReply::Pinned)?
+            && owner(bank, BankCall::Seal(span), busy)
+            && access(bank, 18, BankCall::Unpin { number: 7 }, BankReply::Done)?
+            && owner(bank, BankCall::Seal(span), BankReply::Sealed)
+            && owner(bank, BankCall::Close(span), BankReply::Closed)
+            && access(bank, 18, read_of(512, 1), BankReply::Fault(512))?,
+    )
 }
 
-#[test]
-fn a_pinned_block_is_busy(rt: HostRuntime) -> Result<(), Fail> {
-    assert!(rt; comes(rt.alloc(), busy)?);
-    Ok(())
-}
-
-fn unpinned(_alloc: Global, bank: &mut Bank) -> Result<bool, Fail>
+// A block is reached after an unseal, and reads as zero where it was plugged again.
+fn plugged_again(alloc: Global, bank: &mut Bank) -> Result<bool, AllocError>
     requires { bank.old ≡ fresh 0 0 }
 {
-    let span = Span {
-        first: 512,
-        count: 1,
-    };
-    shape(bank, 1, 513)?;
-    access(bank, 18, &pin_of(512, 1))?;
-    access(bank, 18, &BankCall::Unpin { number: 7 })?;
-    Ok(bank.owner(&BankCall::Seal(span)) == BankReply::Sealed)
+    let span = Span { first: 0, count: 1 };
+    Ok(
+        shape(bank, 5, 1)?
+            && write(alloc, bank, 0, b'x')?
+            && owner(bank, BankCall::Seal(span), BankReply::Sealed)
+            && owner(bank, BankCall::Unseal(span), BankReply::Done)
+            && access(bank, 1, read_of(0, 1), got(alloc, b"x")?)?
+            && owner(bank, BankCall::Seal(span), BankReply::Sealed)
+            && owner(bank, BankCall::Close(span), BankReply::Closed)
+            && owner(bank, BankCall::Open(span), BankReply::Done)
+            && access(bank, 1, read_of(0, 1), got(alloc, b"\0")?)?,
+    )
 }
 
-#[test]
-fn an_unpinned_block_is_sealed(rt: HostRuntime) -> Result<(), Fail> {
-    assert!(rt; comes(rt.alloc(), unpinned)?);
-    Ok(())
-}
-
-fn closed(_alloc: Global, bank: &mut Bank) -> Result<bool, Fail>
-    requires { bank.old ≡ fresh 0 0 }
-{
-    let span = Span {
-        first: 512,
-        count: 1,
-    };
-    shape(bank, 2, 513)?;
-    bank.owner(&BankCall::Seal(span));
-    let closed = bank.owner(&BankCall::Close(span));
-    let read = access(bank, 18, &read_of(512, 1))?;
-    Ok(closed == BankReply::Closed && read == BankReply::Fault(512))
-}
-
-#[test]
-fn a_closed_block_faults(rt: HostRuntime) -> Result<(), Fail> {
-    assert!(rt; comes(rt.alloc(), closed)?);
-    Ok(())
-}
-
-fn pinned_last(_alloc: Global, bank: &mut Bank) -> Result<bool, Fail>
+// A pin on the last block seals none.
+fn pinned_last(alloc: Global, bank: &mut Bank) -> Result<bool, AllocError>
     requires { bank.old ≡ fresh 0 0 }
 {
     let span = Span {
         first: 512,
         count: 4,
     };
-    shape(bank, 1, 516)?;
-    access(bank, 18, &pin_of(515, 1))?;
-    let sealed = bank.owner(&BankCall::Seal(span));
     let busy = BankReply::Busy {
         block: 515,
         caller: 18,
     };
-    access(bank, 1, &read_of(512, 1))?;
-    Ok(sealed == busy)
+    Ok(
+        shape(bank, 1, 516)?
+            && access(bank, 18, pin_of(515, 1), BankReply::Pinned)?
+            && owner(bank, BankCall::Seal(span), busy)
+            && access(bank, 1, read_of(512, 1), got(alloc, b"\0")?)?,
+    )
 }
 
-#[test]
-fn a_pin_on_the_last_block_seals_none(rt: HostRuntime) -> Result<(), Fail> {
-    assert!(rt; comes(rt.alloc(), pinned_last)?);
-    Ok(())
-}
-
-fn unsealed(_alloc: Global, bank: &mut Bank) -> Result<bool, Fail>
-    requires { bank.old ≡ fresh 0 0 }
-{
-    let span = Span { first: 0, count: 1 };
-    shape(bank, 2, 1)?;
-    bank.owner(&BankCall::Seal(span));
-    bank.owner(&BankCall::Unseal(span));
-    access(bank, 1, &read_of(0, 1))?;
-    Ok(true)
-}
-
-#[test]
-fn an_access_after_an_unseal(rt: HostRuntime) -> Result<(), Fail> {
-    assert!(rt; comes(rt.alloc(), unsealed)?);
-    Ok(())
-}
-
-fn plugged_again(alloc: Global, bank: &mut Bank) -> Result<bool, Fail>
-    requires { bank.old ≡ fresh 0 0 }
-{
-    let span = Span { first: 0, count: 1 };
-    shape(bank, 3, 1)?;
-    write(alloc, bank, 0, b'x')?;
-    bank.owner(&BankCall::Seal(span));
-    bank.owner(&BankCall::Close(span));
-    bank.owner(&BankCall::Open(span));
-    let read = access(bank, 1, &read_of(0, 1))?;
-    Ok(has_got(&read, b"\0"))
-}
-
-#[test]
-fn a_block_that_is_plugged_again_reads_as_zero(rt: HostRuntime) -> Result<(), Fail> {
-    assert!(rt; comes(rt.alloc(), plugged_again)?);
-    Ok(())
-}
-
-fn written(alloc: Global, bank: &mut Bank) -> Result<bool, Fail>
+// A byte and the zeros behind it.
+fn written(alloc: Global, bank: &mut Bank) -> Result<bool, AllocError>
     requires { bank.old ≡ fresh 0 0 }
 {
     let read = BankCall::Read {
@@ -240,47 +203,30 @@ fn written(alloc: Global, bank: &mut Bank) -> Result<bool, Fail>
         offset: 4096,
         len: 8,
     };
-    shape(bank, 0, 256)?;
-    let wrote = write(alloc, bank, 4096, 0xab)?;
-    let read = access(bank, 2, &read)?;
-    Ok(wrote == BankReply::Done && has_got(&read, &[0xab, 0, 0, 0, 0, 0, 0, 0]))
+    Ok(
+        shape(bank, 0, 256)?
+            && write(alloc, bank, 4096, 0xab)?
+            && access(bank, 2, read, got(alloc, &[0xab, 0, 0, 0, 0, 0, 0, 0])?)?,
+    )
 }
 
-#[test]
-fn a_byte_and_the_zeros_behind_it(rt: HostRuntime) -> Result<(), Fail> {
-    assert!(rt; comes(rt.alloc(), written)?);
-    Ok(())
-}
-
-fn frozen(_alloc: Global, bank: &mut Bank) -> Result<bool, Fail>
+// Frozen comes before Sealed, and that before Full.
+fn refused(bank: &mut Bank) -> Result<bool, AllocError>
     requires { bank.old ≡ fresh 0 0 }
 {
-    shape(bank, 2, 1)?;
-    bank.owner(&BankCall::Seal(Span { first: 0, count: 1 }));
-    bank.owner(&BankCall::Freeze);
-    let why = refusal(bank, 1, &read_of(0, 1))?;
-    Ok(why == Refusal::Frozen { seen: 3 })
-}
-
-#[test]
-fn frozen_before_sealed(rt: HostRuntime) -> Result<(), Fail> {
-    assert!(rt; comes(rt.alloc(), frozen)?);
-    Ok(())
-}
-
-fn sealed(_alloc: Global, bank: &mut Bank) -> Result<bool, Fail>
-    requires { bank.old ≡ fresh 0 0 }
-{
-    shape(bank, 1_048_575, 1)?;
-    bank.owner(&BankCall::Seal(Span { first: 0, count: 1 }));
-    let why = refusal(bank, 1, &read_of(0, 1))?;
-    Ok(why == Refusal::Sealed { block: 0, seen: 2 })
-}
-
-#[test]
-fn sealed_before_full(rt: HostRuntime) -> Result<(), Fail> {
-    assert!(rt; comes(rt.alloc(), sealed)?);
-    Ok(())
+    let sealed = BankCall::Seal(Span { first: 0, count: 1 });
+    Ok(
+        shape(bank, 1_048_575, 1)?
+            && owner(bank, sealed, BankReply::Sealed)
+            && refuses(
+                bank,
+                1,
+                read_of(0, 1),
+                Refusal::Sealed { block: 0, seen: 2 },
+            )?
+            && owner(bank, BankCall::Freeze, BankReply::Done)
+            && refuses(bank, 1, read_of(0, 1), Refusal::Frozen { seen: 3 })?,
+    )
 }
 
 // A bank that is full, with so many entries and bytes.
@@ -292,52 +238,29 @@ fn full(entries: u64, bytes: u64) -> Refusal {
     })
 }
 
-fn pinned_twice(_alloc: Global, bank: &mut Bank) -> Result<bool, Fail>
+// A Pin needs two places, and an Unpin has its place.
+fn pinned(alloc: Global, bank: &mut Bank) -> Result<bool, AllocError>
     requires { bank.old ≡ fresh 0 0 }
 {
-    shape(bank, 1_048_572, 1)?;
-    access(bank, 1, &pin_of(0, 1))?;
-    let why = refusal(bank, 2, &pin_of(0, 1))?;
-    access(bank, 2, &read_of(0, 1))?;
-    Ok(why == full(1_048_575, 0))
+    Ok(
+        shape(bank, 1_048_572, 1)?
+            && access(bank, 1, pin_of(0, 1), BankReply::Pinned)?
+            && refuses(bank, 2, pin_of(0, 1), full(1_048_575, 0))?
+            && access(bank, 2, read_of(0, 1), got(alloc, b"\0")?)?
+            && refuses(bank, 2, read_of(0, 1), full(1_048_576, 1))?
+            && access(bank, 1, BankCall::Unpin { number: 7 }, BankReply::Done)?,
+    )
 }
 
-#[test]
-fn a_pin_needs_two_places(rt: HostRuntime) -> Result<(), Fail> {
-    assert!(rt; comes(rt.alloc(), pinned_twice)?);
-    Ok(())
-}
-
-fn unpinned_last(_alloc: Global, bank: &mut Bank) -> Result<bool, Fail>
-    requires { bank.old ≡ fresh 0 0 }
-{
-    shape(bank, 1_048_573, 1)?;
-    access(bank, 1, &pin_of(0, 1))?;
-    refusal(bank, 2, &read_of(0, 1))?;
-    let done = access(bank, 1, &BankCall::Unpin { number: 7 })?;
-    Ok(done == BankReply::Done)
-}
-
-#[test]
-fn an_unpin_has_its_place(rt: HostRuntime) -> Result<(), Fail> {
-    assert!(rt; comes(rt.alloc(), unpinned_last)?);
-    Ok(())
-}
-
-fn filled_up(_alloc: Global, bank: &mut Bank) -> Result<bool, Fail>
+// No room beyond the limits, and no access where all bytes are reserved.
+fn filled_up(bank: &mut Bank) -> Result<bool, AllocError>
     requires { bank.old ≡ fresh 0 0 }
 {
     let has_room = bank.room(1_048_577, 0)?.is_ok();
-    bank.room(1, 4096)??;
-    let why = refusal(bank, 1, &read_of(0, 1))?;
+    let has_pages = bank.room(1, 4096)?.is_ok();
+    let is_full = refuses(bank, 1, read_of(0, 1), full(1, 16_777_216))?;
     bank.give_back(0);
-    Ok(!has_room && why == full(1, 16_777_216) && bank.history().len() == 0)
-}
-
-#[test]
-fn a_full_bank(rt: HostRuntime) -> Result<(), Fail> {
-    assert!(rt; comes(rt.alloc(), filled_up)?);
-    Ok(())
+    Ok(!has_room && has_pages && is_full && bank.history().is_empty())
 }
 
 // A page of sevens.
@@ -348,9 +271,10 @@ fn sevens(alloc: Global) -> Result<Bytes, AllocError>
 }
 
 // Fills a page of a bank that is shaped.
-fn fill(alloc: Global, bank: &mut Bank) -> Result<(), Fail>
-    requires { bank.old ≡ fresh 0 0 }
-    ensures { IfOk result (λ _. (bytes : List ℕ) × (bank.new ≡ record {
+fn fill(bank: &mut Bank, bytes: Bytes) -> Result<bool, AllocError>
+    requires fresh { bank.old ≡ fresh 0 0 }
+    requires page { length bytes ≡ 4096 }
+    ensures { IfOk result (λ done. done ≡ true → bank.new ≡ record {
       zone = 0;
       bank = 0;
       history = record { caller = 0; call = call.Shape 1; reply = reply.Done }
@@ -358,33 +282,57 @@ fn fill(alloc: Global, bank: &mut Bank) -> Result<(), Fail>
           ∷ [];
       entries = 4;
       pages = 0;
-    })) }
+    }) }
 {
     let fill = BankCall::Fill {
         block: 0,
         page: 3,
-        bytes: sevens(alloc)?,
+        bytes,
     };
-    bank.room(6, 1)??;
+    if bank.room(6, 1)?.is_err() {
+        return Ok(false);
+    }
     bank.owner(&BankCall::Shape(1));
     bank.owner(&fill);
-    Ok(())
+    Ok(true)
 }
 
-fn shown(alloc: Global, bank: &mut Bank) -> Result<bool, Fail>
+// Pages are filled and shown.
+fn shown(alloc: Global, bank: &mut Bank) -> Result<bool, AllocError>
     requires { bank.old ≡ fresh 0 0 }
 {
-    fill(alloc, bank)?;
-    bank.owner(&BankCall::Freeze);
-    let shown = bank.owner(&BankCall::Show);
-    let pages = bank.pages()?.len();
-    bank.owner(&BankCall::Thaw);
-    bank.owner(&BankCall::Wipe);
-    Ok(shown == BankReply::Pages(1) && pages == 1 && bank.pages()?.is_empty())
+    Ok(
+        fill(bank, sevens(alloc)?)?
+            && owner(bank, BankCall::Freeze, BankReply::Done)
+            && owner(bank, BankCall::Show, BankReply::Pages(1))
+            && bank.pages()?.len() == 1
+            && owner(bank, BankCall::Thaw, BankReply::Done)
+            && owner(bank, BankCall::Wipe, BankReply::Done)
+            && bank.pages()?.is_empty(),
+    )
+}
+
+// Plays the case of this number on a bank that it is lent, to which nothing happened yet.
+fn comes(alloc: Global, bank: &mut Bank, case: u32) -> Result<bool, AllocError>
+    requires { bank.old ≡ fresh 0 0 }
+{
+    match case {
+        0 => unplugged(bank),
+        1 => plugged_again(alloc, bank),
+        2 => pinned_last(alloc, bank),
+        3 => written(alloc, bank),
+        4 => refused(bank),
+        5 => pinned(alloc, bank),
+        6 => filled_up(bank),
+        _ => shown(alloc, bank),
+    }
 }
 
 #[test]
-fn pages_are_filled_and_shown(rt: HostRuntime) -> Result<(), Fail> {
-    assert!(rt; comes(rt.alloc(), shown)?);
+fn banks(rt: HostRuntime) -> Result<(), Fail> {
+    for case in 0..8 {
+        let mut bank = Bank::new(rt.alloc(), 0, 0)?;
+        assert!(rt; comes(rt.alloc(), &mut bank, case)?, "case {case}");
+    }
     Ok(())
 }

@@ -17,23 +17,23 @@ fn is_page(page: &PageAt, want: &Page) -> bool {
 }
 
 fn is_zero_but(bytes: &[u8], at: usize, byte: u8) -> bool {
-    bytes
-        .iter()
-        .enumerate()
-        .all(|(k, b)| *b == if k == at { byte } else { 0 })
+    for (k, b) in bytes.iter().enumerate() {
+        if *b != if k == at { byte } else { 0 } {
+            return false;
+        }
+    }
+    true
 }
 
 /// Whether these pages are listed and no others.
 fn lists(memory: &Pages, pages: &[Page]) -> Result<bool, AllocError> {
     let listed = memory.list()?;
-    Ok(
-        listed.len() == pages.len()
-            && listed
-                .as_slice()
-                .iter()
-                .zip(pages)
-                .all(|(page, want)| is_page(page, want)),
-    )
+    for (page, want) in listed.as_slice().iter().zip(pages) {
+        if !is_page(page, want) {
+            return Ok(false);
+        }
+    }
+    Ok(listed.len() == pages.len())
 }
 
 /// Whether four bytes stand from an offset on.
@@ -57,17 +57,19 @@ fn write(memory: &mut Pages) -> Result<(), AllocError>
 
 const WRITTEN: [Page; 3] = [(0, 511, 4_095, 3), (1, 0, 4_095, 1), (1, 1, 0, 2)];
 
-#[test]
-fn contents(rt: HostRuntime) -> Result<(), Fail> {
-    let mut memory = Pages::new(rt.alloc(), 2)?;
-    assert!(rt; has_four(&memory, 1, 2_097_148, [0, 0, 0, 0]));
-    write(&mut memory)?;
-    assert!(rt; has_four(&memory, 1, 4_094, [0, 1, 2, 0]));
-    assert!(rt; lists(&memory, &WRITTEN)?);
+fn is_written(memory: &mut Pages) -> Result<bool, AllocError>
+    requires { memory.old.blocks ≡ 2 }
+{
+    let was_zero = has_four(memory, 1, 2_097_148, [0, 0, 0, 0]);
+    write(memory)?;
+    let is_there = has_four(memory, 1, 4_094, [0, 1, 2, 0]) && lists(memory, &WRITTEN)?;
     memory.clear_block(1);
-    assert!(rt; has_four(&memory, 1, 4_094, [0, 0, 0, 0]));
-    assert!(rt; memory.list()?.len() == 1);
-    Ok(())
+    Ok(
+        was_zero
+            && is_there
+            && has_four(memory, 1, 4_094, [0, 0, 0, 0])
+            && memory.list()?.len() == 1,
+    )
 }
 
 /// Fills a page with a byte among zeros.
@@ -82,12 +84,20 @@ fn fill(alloc: Global, memory: &mut Pages) -> Result<(), AllocError>
     Ok(())
 }
 
-#[test]
-fn reserved_pages(rt: HostRuntime) -> Result<(), Fail> {
-    let mut memory = Pages::new(rt.alloc(), 1)?;
-    fill(rt.alloc(), &mut memory)?;
-    assert!(rt; has_four(&memory, 0, 12_295, [5, 0, 0, 0]));
+fn is_filled(alloc: Global, memory: &mut Pages) -> Result<bool, AllocError>
+    requires { memory.old.blocks ≡ 1 }
+{
+    fill(alloc, memory)?;
+    let is_there = has_four(memory, 0, 12_295, [5, 0, 0, 0]);
     memory.release();
-    assert!(rt; lists(&memory, &[(0, 3, 7, 5)])?);
+    Ok(is_there && lists(memory, &[(0, 3, 7, 5)])?)
+}
+
+#[test]
+fn pages(rt: HostRuntime) -> Result<(), Fail> {
+    let mut memory = Pages::new(rt.alloc(), 2)?;
+    assert!(rt; is_written(&mut memory)?);
+    let mut memory = Pages::new(rt.alloc(), 1)?;
+    assert!(rt; is_filled(rt.alloc(), &mut memory)?);
     Ok(())
 }

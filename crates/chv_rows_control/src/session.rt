@@ -1,20 +1,18 @@
-ghost use Rattle.std.specs.Prelude.{◌≡◌, [], true, false};
+ghost use Rattle.std.specs.Prelude.{◌≡◌, ◌++◌, ◌∷◌, [], true, false, IfOk, IfSome, OnErr, OnOk};
 ghost use Rattle.chv_defs.specs.Machine.{IsSession};
 ghost use Rattle.chv_defs.specs.Desks.{can_have, is_held};
 
-use chv_defs::{
-    Bytes, ControlCall, ControlReply, Desk, Info, Row, Rule, SessionEnd, SessionLog, ShownState,
-    Stopped, copy_of,
-};
+use chv_defs::{Bytes, ControlCall, ControlReply, Desk, SessionEnd, SessionLog, Stopped, copy_of};
 use chv_io::{Link, MemLink};
-use chv_samples::{numbers, plain_config};
+use chv_samples::numbers;
 use chv_session::{Next, Session};
 use std::alloc::{AllocError, Global};
 use std::marker::Model;
 use std::test::Fail;
 
-/// A ping, and a pause, which holds and is settled.
-const TWO: &[u8] = b"GET /api/v1/vmm.ping HTTP/1.1\r\n\r\nPUT /api/v1/vm.pause HTTP/1.1\r\n\r\n";
+/// A ping, and a pause with a body, which holds and is settled.
+const TWO: &[u8] =
+    b"GET /api/v1/vmm.ping HTTP/1.1\r\n\r\nPUT /api/v1/vm.pause HTTP/1.1\r\nContent-Length: 2\r\n\r\n{}";
 
 /// The replies to them.
 const TWO_REPLIES: &[u8] =
@@ -23,14 +21,6 @@ const TWO_REPLIES: &[u8] =
 /// A last ping, and bytes behind it.
 const LAST: &[u8] =
     b"GET /api/v1/vmm.ping HTTP/1.1\r\nConnection: close\r\n\r\nGET /api/v1/vmm.ping HTTP/1.1\r\n\r\n";
-
-/// What is shown of no machine, the machine, and what is shown of it.
-const MACHINE: &[u8] =
-    b"GET /api/v1/vm.info HTTP/1.1\r\n\r\nPUT /api/v1/vm.create HTTP/1.1\r\nContent-Length: 2\r\n\r\n{}GET /api/v1/vm.info HTTP/1.1\r\n\r\n";
-
-/// The replies to them.
-const MACHINE_REPLIES: &[u8] =
-    b"HTTP/1.1 404 Not Found\r\nContent-Type: application/json\r\nContent-Length: 21\r\n\r\n{\"rule\":\"NotCreated\"}HTTP/1.1 204 No Content\r\n\r\nHTTP/1.1 200 OK\r\nContent-Type: application/json\r\nContent-Length: 245\r\n\r\n{\"config\":{\"cpus\":{\"boot_vcpus\":1,\"max_vcpus\":1},\"disks\":[],\"memory\":{\"hotplug_method\":\"Acpi\",\"hotplug_size\":0,\"hotplugged_size\":0,\"size\":536870912,\"zones\":[]}},\"devices\":[],\"memory_actual_size\":536870912,\"state\":\"Created\",\"vcpus\":[],\"zones\":[]}";
 
 /// A call with its answer.
 #[derive(Drop)]
@@ -50,36 +40,38 @@ impl Model for Made {
 /// A desk of session 1, which keeps what it is asked, and stops behind so many calls.
 #[derive(Drop)]
 struct TestDesk {
-    alloc: Global,
     made: Vec<Made>,
     stops_behind: usize,
     refused: Option<ControlCall>,
-    has_machine: bool,
 }
 
-/// What is shown of the machine.
-fn machine(alloc: Global) -> Info {
-    Info {
-        config: plain_config(alloc),
-        devices: Row::empty(alloc),
-        actual_size: 536_870_912,
-        state: ShownState::Created,
-        vcpus: Row::empty(alloc),
-        zones: Row::empty(alloc),
-    }
-}
-
-/// Ping, Create, Settle and Bye are done, a Begin holds, a machine that is there is shown, and all else is refused.
-fn reply_to(alloc: Global, has_machine: bool, call: &ControlCall) -> ControlReply
-    ensures { can_have call.now result ≡ true }
-{
-    match call {
-        ControlCall::Ping | ControlCall::Create(_) | ControlCall::Settle | ControlCall::Bye => {
-            ControlReply::Done
+impl TestDesk {
+    /// Ping, Settle and Bye are done, and a Begin holds; the run stops behind so many calls, and at any other one.
+    fn reply_to(&self, call: &ControlCall) -> Option<ControlReply>
+        ensures { IfSome result (λ reply. can_have call.now reply ≡ true) }
+    {
+        if self.made.len() >= self.stops_behind {
+            return None;
         }
-        ControlCall::Begin(_) => ControlReply::Holding,
-        ControlCall::Info if has_machine => ControlReply::Shown(machine(alloc)),
-        _ => ControlReply::Ruled(Rule::NotCreated),
+        match call {
+            ControlCall::Ping | ControlCall::Settle | ControlCall::Bye => Some(ControlReply::Done),
+            ControlCall::Begin(_) => Some(ControlReply::Holding),
+            _ => None,
+        }
+    }
+
+    /// Keeps a call with its answer. An `Err` keeps none.
+    fn keep(&mut self, call: &ControlCall, reply: &ControlReply) -> Result<(), AllocError>
+        ensures ok { OnOk result (self.new.made.items ≡ self.old.made.items ++ record { call = call.now; reply = reply.now } ∷ []) }
+        ensures err { OnErr result (self.new.made.items ≡ self.old.made.items) }
+        ensures refused { self.new.refused ≡ self.old.refused }
+    {
+        let made = Made {
+            call: copy_of(call)?,
+            reply: copy_of(reply)?,
+        };
+        self.made.push(made)?;
+        Ok(())
     }
 }
 
@@ -97,17 +89,33 @@ impl Desk<()> for TestDesk {
         _rt: (),
         call: &ControlCall,
     ) -> Result<Result<ControlReply, Stopped>, AllocError> {
-        if self.made.len() >= self.stops_behind {
-            self.refused = Some(copy_of(call)?);
-            return Ok(Err(Stopped));
+        match self.reply_to(call) {
+            Some(reply) => {
+                self.keep(call, &reply)?;
+                Ok(Ok(reply))
+            }
+            None => {
+                self.refused = Some(copy_of(call)?);
+                Ok(Err(Stopped))
+            }
         }
-        let reply = reply_to(self.alloc, self.has_machine, call);
-        self.made.push(Made {
-            call: copy_of(call)?,
-            reply: copy_of(&reply)?,
-        })?;
-        self.has_machine = self.has_machine || matches!(call, ControlCall::Create(_));
-        Ok(Ok(reply))
+    }
+}
+
+/// Makes one turn of a session; whether it answered a request.
+fn answers<K: Link, T: Desk<()>>(
+    session: &mut Session,
+    link: &mut K,
+    desk: &mut T,
+) -> Result<bool, AllocError>
+    requires session { IsSession (T.caller desk.old) }
+    requires settled { is_held (T.answers desk.old) ≡ false }
+    ensures caller { T.caller desk.new ≡ T.caller desk.old }
+    ensures settled { IfOk result (λ answered. answered ≡ true → is_held (T.answers desk.new) ≡ false) }
+{
+    match session.next((), link, desk)? {
+        Next::Answered => Ok(true),
+        Next::Ended(_) => Ok(false),
     }
 }
 
@@ -122,7 +130,7 @@ fn run<K: Link, T: Desk<()>>(
     requires settled { is_held (T.answers desk.old) ≡ false }
 {
     for _ in 0..turns {
-        if session.next((), link, desk)? != Next::Answered {
+        if !answers(session, link, desk)? {
             return Ok(());
         }
     }
@@ -172,11 +180,9 @@ fn left_over(
     turns: usize,
 ) -> Result<Left, AllocError> {
     let mut desk = TestDesk {
-        alloc,
         made: Vec::new(alloc),
         stops_behind,
         refused: None,
-        has_machine: false,
     };
     let log = log_of(alloc, link, &mut desk, turns)?;
     Ok(Left {
@@ -187,34 +193,17 @@ fn left_over(
     })
 }
 
-/// A stream, the replies to it, and whether it comes byte by byte. Each has four calls: Ping, Begin, Settle, Bye; and
-/// Info, Create, Info, Bye.
-const REPLIES: [(&[u8], &[u8], bool); 3] = [
-    (TWO, TWO_REPLIES, false),
-    (TWO, TWO_REPLIES, true),
-    (MACHINE, MACHINE_REPLIES, true),
-];
-
-fn replies_so(
+/// Whether a stream, byte by byte or in large pieces, is replied so, by so many calls.
+fn is_replied(
     alloc: Global,
     stream: &[u8],
-    expected: &[u8],
     by_bytes: bool,
+    replies: &[u8],
+    calls: usize,
 ) -> Result<bool, AllocError> {
     let mut link = link_of(alloc, stream, by_bytes, 0)?;
     let left = left_over(alloc, &mut link, 9, 9)?;
-    Ok(left.put.as_slice() == expected && left.calls == 4)
-}
-
-#[test]
-fn replies(rt: HostRuntime) -> Result<(), Fail> {
-    for (k, (stream, expected, by_bytes)) in REPLIES.iter().enumerate() {
-        assert!(rt;
-            replies_so(rt.alloc(), *stream, *expected, *by_bytes)?,
-            "row {k}"
-        );
-    }
-    Ok(())
+    Ok(left.put.as_slice() == replies && left.calls == calls)
 }
 
 /// A stream, the call of the connection that fails, the calls behind which the run stops, and the turns; then the end,
@@ -271,7 +260,11 @@ fn ends_so(alloc: Global, end: &End) -> Result<bool, AllocError> {
 }
 
 #[test]
-fn ends(rt: HostRuntime) -> Result<(), Fail> {
+fn sessions(rt: HostRuntime) -> Result<(), Fail> {
+    for by_bytes in [false, true] {
+        // Ping, Begin, Settle, Bye.
+        assert!(rt; is_replied(rt.alloc(), TWO, by_bytes, TWO_REPLIES, 4)?);
+    }
     for (k, end) in ENDS.iter().enumerate() {
         assert!(rt; ends_so(rt.alloc(), end)?, "row {k}");
     }

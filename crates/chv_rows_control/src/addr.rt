@@ -53,10 +53,10 @@ fn config_of(alloc: Global, zones: &[Zone]) -> Result<VmConfig, AllocError> {
     Ok(config)
 }
 
-fn checked(alloc: Global, config: &VmConfig) -> Result<Checked, Fail>
+fn checked_of(alloc: Global, zones: &[Zone]) -> Result<Checked, Fail>
     ensures { IfOk result (λ checked. is_within_limits checked.zones ≡ true) }
 {
-    match check(alloc, config, &Row::empty(alloc))? {
+    match check(alloc, &config_of(alloc, zones)?, &Row::empty(alloc))? {
         Ok(checked) => {
             checked_zones_fit(&checked);
             Ok(checked)
@@ -65,25 +65,19 @@ fn checked(alloc: Global, config: &VmConfig) -> Result<Checked, Fail>
     }
 }
 
-fn checked_of(alloc: Global, zones: &[Zone]) -> Result<Checked, Fail>
-    ensures { IfOk result (λ checked. is_within_limits checked.zones ≡ true) }
-{
-    checked(alloc, &config_of(alloc, zones)?)
-}
-
-fn map_of(alloc: Global, zones: &[Zone]) -> Result<AddrMap, Fail> {
-    Ok(AddrMap::build(alloc, &checked_of(alloc, zones)?)?)
-}
-
 fn finds_all(map: &AddrMap, wanted: &[LookUp]) -> bool {
-    wanted
-        .iter()
-        .all(|look_up| map.find(look_up.0, look_up.1) == look_up.2)
+    for (addr, len, place) in wanted {
+        if map.find(*addr, *len) != *place {
+            return false;
+        }
+    }
+    true
 }
 
 /// Whether all look-ups in the map of some zones find these places.
 fn finds(alloc: Global, zones: &[Zone], wanted: &[LookUp]) -> Result<bool, Fail> {
-    Ok(finds_all(&map_of(alloc, zones)?, wanted))
+    let map = AddrMap::build(alloc, &checked_of(alloc, zones)?)?;
+    Ok(finds_all(&map, wanted))
 }
 
 const WORKED: [LookUp; 5] = [
@@ -93,12 +87,6 @@ const WORKED: [LookUp; 5] = [
     (0xbfff_fffc, 8, Place::Crosses),
     (0x1_0020_0000, 1, Place::Hole),
 ];
-
-#[test]
-fn worked_look_ups(rt: HostRuntime) -> Result<(), Fail> {
-    assert!(rt; finds(rt.alloc(), &[(3_223_322_624, 0)], &WORKED)?);
-    Ok(())
-}
 
 const WINDOWS: [LookUp; 16] = [
     (0xe000_ffff, 1, Place::Hole),
@@ -118,12 +106,6 @@ const WINDOWS: [LookUp; 16] = [
     (u64::MAX, u64::MAX, Place::Crosses),
     (0xe001_0000, 0, Place::Crosses),
 ];
-
-#[test]
-fn edges_of_windows(rt: HostRuntime) -> Result<(), Fail> {
-    assert!(rt; finds(rt.alloc(), &[(4 * MIB, 0)], &WINDOWS)?);
-    Ok(())
-}
 
 const FIXED: [LookUp; 9] = [
     (0, 1, ram!(0, 0, 0)),
@@ -155,15 +137,6 @@ const PAST: [LookUp; 5] = [
     (0x1_0840_0000, 1, Place::Hole),
 ];
 
-#[test]
-fn edges_of_one_zone(rt: HostRuntime) -> Result<(), Fail> {
-    let alloc = rt.alloc();
-    assert!(rt; finds(alloc, &[(4 * MIB, 0)], &FIXED)?);
-    assert!(rt; finds(alloc, &[(GIB, 2 * GIB)], &GROWS)?);
-    assert!(rt; finds(alloc, &[(3 * GIB + 2 * MIB, 4 * MIB)], &PAST)?);
-    Ok(())
-}
-
 const SECOND_STRADDLES: [LookUp; 8] = [
     (0x7fff_ffff, 1, ram!(0, 1023, 2_097_151)),
     (0x7fff_ffff, 2, Place::Crosses),
@@ -193,15 +166,6 @@ const BOTH_GROW: [LookUp; 7] = [
     (0x1_0840_0000, 1, Place::Hole),
 ];
 
-#[test]
-fn edges_of_two_zones(rt: HostRuntime) -> Result<(), Fail> {
-    let alloc = rt.alloc();
-    assert!(rt; finds(alloc, &[(2 * GIB, 0), (2 * GIB, 0)], &SECOND_STRADDLES)?);
-    assert!(rt; finds(alloc, &[(4 * GIB, 0), (2 * MIB, 0)], &FIRST_STRADDLES)?);
-    assert!(rt; finds(alloc, &[(2 * MIB, 2 * MIB), (2 * MIB, 4 * MIB)], &BOTH_GROW)?);
-    Ok(())
-}
-
 const BOOT: [LookUp; 6] = [
     (0xbfff_ffff, 1, ram!(5, 255, 2_097_151)),
     (0xc000_0000, 1, Place::Hole),
@@ -224,44 +188,50 @@ const EIGHT: [Zone; 8] = [(512 * MIB, 0); 8];
 
 const EIGHT_THAT_GROW: [Zone; 8] = [(512 * MIB, 130 * MIB); 8];
 
-#[test]
-fn edges_of_eight_zones(rt: HostRuntime) -> Result<(), Fail> {
-    assert!(rt; finds(rt.alloc(), &EIGHT, &BOOT)?);
-    assert!(rt; finds(rt.alloc(), &EIGHT, &[(0x1_4000_0000, 1, Place::Hole)])?);
-    assert!(rt; finds(rt.alloc(), &EIGHT_THAT_GROW, &BOOT)?);
-    assert!(rt; finds(rt.alloc(), &EIGHT_THAT_GROW, &PLUGGED)?);
-    Ok(())
-}
+/// Zones, and look-ups in their map.
+const MAPS: [(&[Zone], &[LookUp]); 12] = [
+    (&[(3_223_322_624, 0)], &WORKED),
+    (&[(4 * MIB, 0)], &WINDOWS),
+    (&[(4 * MIB, 0)], &FIXED),
+    (&[(GIB, 2 * GIB)], &GROWS),
+    (&[(3 * GIB + 2 * MIB, 4 * MIB)], &PAST),
+    (&[(2 * GIB, 0), (2 * GIB, 0)], &SECOND_STRADDLES),
+    (&[(4 * GIB, 0), (2 * MIB, 0)], &FIRST_STRADDLES),
+    (&[(2 * MIB, 2 * MIB), (2 * MIB, 4 * MIB)], &BOTH_GROW),
+    (&EIGHT, &BOOT),
+    (&EIGHT, &[(0x1_4000_0000, 1, Place::Hole)]),
+    (&EIGHT_THAT_GROW, &BOOT),
+    (&EIGHT_THAT_GROW, &PLUGGED),
+];
 
 /// Three zones, of which the second does not grow.
 const THREE: [Zone; 3] = [(3 * GIB + 2 * MIB, 4 * MIB), (2 * MIB, 0), (GIB, 64 * MIB)];
 
-fn region_in(alloc: Global, checked: &Checked, zone: u8) -> Result<Option<Region>, AllocError>
-    requires { is_within_limits checked.now.zones ≡ true }
-{
-    if usize::from(zone) >= checked.zones.len() {
-        return Ok(None);
-    }
-    Ok(Some(AddrMap::build(alloc, checked)?.region(zone)))
-}
+const FIRST: Region = Region {
+    addr: 0x1_4800_0000,
+    size: 4 * MIB,
+};
 
-/// The hotplug region of one of them.
-fn region_of(alloc: Global, zone: u8) -> Result<Option<Region>, Fail> {
-    Ok(region_in(alloc, &checked_of(alloc, &THREE)?, zone)?)
+const THIRD: Region = Region {
+    addr: 0x1_5000_0000,
+    size: 64 * MIB,
+};
+
+/// Whether they have these hotplug regions.
+fn has_regions(alloc: Global) -> Result<bool, Fail> {
+    let checked = checked_of(alloc, &THREE)?;
+    if checked.zones.len() != 3 {
+        return Ok(false);
+    }
+    let map = AddrMap::build(alloc, &checked)?;
+    Ok(map.region(0) == FIRST && map.region(1).size == 0 && map.region(2) == THIRD)
 }
 
 #[test]
-fn regions(rt: HostRuntime) -> Result<(), Fail> {
-    let first = Region {
-        addr: 0x1_4800_0000,
-        size: 4 * MIB,
-    };
-    let third = Region {
-        addr: 0x1_5000_0000,
-        size: 64 * MIB,
-    };
-    assert!(rt; region_of(rt.alloc(), 0)? == Some(first));
-    assert!(rt; region_of(rt.alloc(), 1)?.is_some_and(|region| region.size == 0));
-    assert!(rt; region_of(rt.alloc(), 2)? == Some(third));
+fn maps(rt: HostRuntime) -> Result<(), Fail> {
+    for (k, (zones, wanted)) in MAPS.iter().enumerate() {
+        assert!(rt; finds(rt.alloc(), *zones, *wanted)?, "row {k}");
+    }
+    assert!(rt; has_regions(rt.alloc())?);
     Ok(())
 }

@@ -11,7 +11,7 @@ const ONES: [u8; 512] = [1; 512];
 type Came = ([bool; 4], [u8; 2], u64);
 
 /// Writes ones to a sector, reads it and the next one, and flushes.
-fn work<D: Disk>(disk: &mut D) -> Came {
+fn work(disk: &mut AnyDisk<MemDisk>) -> Came {
     if disk.sectors() < 3 {
         return ([false; 4], [0; 2], 0);
     }
@@ -28,16 +28,10 @@ fn work<D: Disk>(disk: &mut D) -> Came {
     )
 }
 
-/// What comes of a disk of zeros, whose calls of these numbers fail.
-fn came(alloc: Global, fail: &[u64]) -> Result<Came, AllocError> {
-    let mut disk = MemDisk::new(alloc, 3, numbers(alloc, fail)?)?;
-    Ok(work(&mut disk))
-}
-
-/// What comes of the same disk as one of two kinds.
-fn came_of_either(alloc: Global, is_made: bool, fail: &[u64]) -> Result<Came, AllocError> {
+/// What comes of a disk of zeros, as one of two kinds, whose calls of these numbers fail.
+fn came(alloc: Global, is_made: bool, fail: &[u64]) -> Result<Came, AllocError> {
     let disk = MemDisk::new(alloc, 3, numbers(alloc, fail)?)?;
-    let mut disk: AnyDisk<MemDisk> = if is_made {
+    let mut disk = if is_made {
         AnyDisk::Made(disk)
     } else {
         AnyDisk::Given(disk)
@@ -45,19 +39,18 @@ fn came_of_either(alloc: Global, is_made: bool, fail: &[u64]) -> Result<Came, Al
     Ok(work(&mut disk))
 }
 
-#[test]
-fn disk_in_memory(rt: HostRuntime) -> Result<(), Fail> {
-    assert!(rt; came(rt.alloc(), &[])? == ([true; 4], [1, 0], 0));
-    // The write fails and leaves zeros.
-    assert!(rt; came(rt.alloc(), &[1, 4])? == ([false, true, true, false], [0, 0], 2));
-    Ok(())
-}
+/// Whether the disk is made, its calls that fail, and what comes of it. A write that fails leaves zeros.
+const ROWS: [(bool, &[u64], Came); 4] = [
+    (false, &[], ([true; 4], [1, 0], 0)),
+    (true, &[], ([true; 4], [1, 0], 0)),
+    (true, &[1, 4], ([false, true, true, false], [0, 0], 2)),
+    (false, &[3], ([true, true, false, true], [1, 2], 1)),
+];
 
 #[test]
-fn disk_of_either_kind(rt: HostRuntime) -> Result<(), Fail> {
-    let given = came_of_either(rt.alloc(), false, &[3])?;
-    assert!(rt; given == ([true, true, false, true], [1, 2], 1));
-    let made = came_of_either(rt.alloc(), true, &[])?;
-    assert!(rt; made == ([true; 4], [1, 0], 0));
+fn disks_of_either_kind(rt: HostRuntime) -> Result<(), Fail> {
+    for (is_made, fail, expected) in &ROWS {
+        assert!(rt; came(rt.alloc(), *is_made, *fail)? == *expected);
+    }
     Ok(())
 }
