@@ -11,9 +11,14 @@ use std::io;
 
 /// `call METHOD TARGET BODY`: the control call that a request makes.
 pub fn call(alloc: Global, words: &str) -> io::Result<String> {
-    match call_of(alloc, words)? {
-        Ok(call) => Ok(shown(alloc, &call)?),
-        Err(rule) => Ok(ruled(alloc, rule)?),
+    let call = call_of(alloc, words)?;
+    Ok(made_or_ruled(alloc, &call)?)
+}
+
+fn made_or_ruled(alloc: Global, call: &Result<ControlCall, Rule>) -> Result<String, AllocError> {
+    match call {
+        Ok(call) => shown(alloc, call),
+        Err(rule) => ruled(alloc, *rule),
     }
 }
 
@@ -21,17 +26,27 @@ pub fn call(alloc: Global, words: &str) -> io::Result<String> {
 pub fn call_of(alloc: Global, words: &str) -> io::Result<Result<ControlCall, Rule>> {
     let (method, behind) = cut(words, ' ');
     let (target, body) = cut(behind, ' ');
+    let body = Bytes::new(bytes_of(alloc, body)?);
+    Ok(call_of_request(alloc, method, target, body)?)
+}
+
+fn call_of_request(
+    alloc: Global,
+    method: &str,
+    target: &str,
+    body: Bytes,
+) -> Result<Result<ControlCall, Rule>, AllocError> {
     let request = Request {
         put: method == "PUT",
         get: method == "GET",
         target: Text::of(alloc, target)?,
-        body: Bytes::new(bytes_of(alloc, body)?),
+        body,
         last: false,
     };
-    Ok(calls_of(alloc, &request)?)
+    calls_of(alloc, &request)
 }
 
-// A control call, as a trace writes it.
+// A control call: its word, and what it is given.
 fn shown(alloc: Global, call: &ControlCall) -> Result<String, AllocError> {
     match call {
         ControlCall::Create(config) => behind(alloc, "create ", &config_text(alloc, config)?),

@@ -3,7 +3,7 @@ use crate::answers::{ruled, text};
 use crate::json::{read_config, read_disk};
 use crate::words::cut;
 use chv_config::{check, check_disk};
-use chv_defs::{Checked, Name, Row, Text, ZoneConfig};
+use chv_defs::{Checked, DiskConfig, Name, Row, Text, VmConfig, ZoneConfig};
 use chv_json::{config_text, disk_text};
 use std::alloc::{AllocError, Global};
 use std::io;
@@ -12,9 +12,18 @@ use std::io;
 pub fn checked(alloc: Global, words: &str) -> io::Result<String> {
     let (names, body) = cut(words, ' ');
     let names = names_of(alloc, names)?;
-    match check(alloc, &read_config(alloc, body)?, &names)? {
-        Ok(checked) => Ok(kept(alloc, &checked)?),
-        Err(rule) => Ok(ruled(alloc, rule)?),
+    let config = read_config(alloc, body)?;
+    Ok(kept_or_ruled(alloc, &config, &names)?)
+}
+
+fn kept_or_ruled(
+    alloc: Global,
+    config: &VmConfig,
+    names: &Row<Name>,
+) -> Result<String, AllocError> {
+    match check(alloc, config, names)? {
+        Ok(checked) => kept(alloc, &checked),
+        Err(rule) => ruled(alloc, rule),
     }
 }
 
@@ -23,15 +32,35 @@ pub fn further(alloc: Global, words: &str) -> io::Result<String> {
     let (names, behind) = cut(words, ' ');
     let (body, disk) = cut(behind, ' ');
     let names = names_of(alloc, names)?;
-    let now = now_of(alloc, body, &names)?;
-    match check_disk(alloc, &now, &read_disk(alloc, disk)?, &names)? {
-        Ok(disk) => Ok(text(alloc, &disk_text(alloc, &disk)?)?),
-        Err(rule) => Ok(ruled(alloc, rule)?),
+    let config = read_config(alloc, body)?;
+    further_disk(alloc, &config, disk, &names)
+}
+
+fn further_disk(
+    alloc: Global,
+    config: &VmConfig,
+    disk: &str,
+    names: &Row<Name>,
+) -> io::Result<String> {
+    let now = now_of(alloc, config, names)?;
+    let disk = read_disk(alloc, disk)?;
+    Ok(added_or_ruled(alloc, &now, &disk, names)?)
+}
+
+fn added_or_ruled(
+    alloc: Global,
+    now: &Checked,
+    disk: &DiskConfig,
+    names: &Row<Name>,
+) -> Result<String, AllocError> {
+    match check_disk(alloc, now, disk, names)? {
+        Ok(disk) => text(alloc, &disk_text(alloc, &disk)?),
+        Err(rule) => ruled(alloc, rule),
     }
 }
 
-fn now_of(alloc: Global, body: &str, names: &Row<Name>) -> io::Result<Checked> {
-    match check(alloc, &read_config(alloc, body)?, names)? {
+fn now_of(alloc: Global, config: &VmConfig, names: &Row<Name>) -> io::Result<Checked> {
+    match check(alloc, config, names)? {
         Ok(checked) => Ok(checked),
         Err(rule) => Err(io::Error::other(rule.name())),
     }

@@ -108,18 +108,39 @@ pub fn device(alloc: Global, words: &str) -> io::Result<String> {
 pub fn info(alloc: Global, words: &str) -> io::Result<String> {
     let (size, behind) = cut(words, ' ');
     let (zone, body) = cut(behind, ' ');
-    let info = Info {
-        config: read_config(alloc, body)?,
-        devices: Row::empty(alloc),
-        actual_size: found(number(size))?,
-        state: ShownState::Created,
-        vcpus: Row::empty(alloc),
-        zones: zones_of(alloc, zone)?,
-    };
-    Ok(text(alloc, &info_text(alloc, &info)?)?)
+    let size = found(number(size))?;
+    let config = read_config(alloc, body)?;
+    Ok(shown_info(alloc, config, size, zone)?)
 }
 
-fn zones_of(alloc: Global, id: &str) -> io::Result<Row<ZoneInfo>> {
+fn shown_info(
+    alloc: Global,
+    config: VmConfig,
+    size: u64,
+    zone: &str,
+) -> Result<String, AllocError> {
+    let info = created(alloc, config, size, zone)?;
+    text(alloc, &info_text(alloc, &info)?)
+}
+
+fn created(
+    alloc: Global,
+    config: VmConfig,
+    actual_size: u64,
+    zone: &str,
+) -> Result<Info, AllocError> {
+    let zones = zones_of(alloc, zone)?;
+    Ok(Info {
+        config,
+        devices: Row::empty(alloc),
+        actual_size,
+        state: ShownState::Created,
+        vcpus: Row::empty(alloc),
+        zones,
+    })
+}
+
+fn zones_of(alloc: Global, id: &str) -> Result<Row<ZoneInfo>, AllocError> {
     let mut zones = Row::empty(alloc);
     zones.push(ZoneInfo {
         id: Text::of(alloc, id)?,

@@ -15,8 +15,27 @@ pub fn reply(alloc: Global, words: &str) -> io::Result<String> {
     let (answer, request) = cut(behind, ' ');
     let last = found(is_last(last))?;
     let answer = answer_of(alloc, answer)?;
-    match call_of(alloc, request)? {
-        Ok(call) => Ok(reply_to(alloc, &call, &answer, last)?),
+    reply_to_request(alloc, request, &answer, last)
+}
+
+fn reply_to_request(
+    alloc: Global,
+    request: &str,
+    answer: &ControlReply,
+    last: bool,
+) -> io::Result<String> {
+    let call = call_of(alloc, request)?;
+    reply_to_made(alloc, &call, answer, last)
+}
+
+fn reply_to_made(
+    alloc: Global,
+    call: &Result<ControlCall, Rule>,
+    answer: &ControlReply,
+    last: bool,
+) -> io::Result<String> {
+    match call {
+        Ok(call) => Ok(reply_to(alloc, call, answer, last)?),
         Err(rule) => Err(io::Error::other(rule.name())),
     }
 }
