@@ -1,0 +1,35 @@
+//! Answers cases: a line of standard input names a public call and what it is given, and behind it stands what the call
+//! answers. Blank lines, and lines whose first word is `#`, are written as they are.
+#![tactic(auto)]
+
+mod answers;
+mod calls;
+mod configs;
+mod escapes;
+mod json;
+mod kinds;
+mod numbers;
+mod replies;
+mod scenes;
+mod streams;
+mod words;
+
+use std::io;
+
+fn main(rt: HostRuntime) -> io::Result<()> {
+    for line in rt.lines(rt.alloc()) {
+        write_line(&rt, line?.as_str())?;
+    }
+    Ok(())
+}
+
+// Writes a line, and the answer where it is a case.
+fn write_line(rt: &(impl Print + AllocGlobal), line: &str) -> io::Result<()> {
+    println!(rt; "{line}")?;
+    let (kind, words) = words::cut(line, ' ');
+    if kind == "" || kind == "#" {
+        return Ok(());
+    }
+    let answer = kinds::answer(rt.alloc(), kind, words)?;
+    println!(rt; "-> {answer}")
+}
