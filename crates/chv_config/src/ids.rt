@@ -1,6 +1,6 @@
 // The ids of devices: the given ones, and the default ones.
 ghost use Rattle.std.specs.Prelude.{◌≡◌, ◌++◌, IfOk, OnOk};
-ghost use Rattle.chv_defs.specs.ConfigRules.{default_id, given_ids, id_beside, ids_of, lowest_free, memory_device_ids, with_id, with_ids};
+ghost use Rattle.chv_defs.specs.ConfigRules.{default_id, given_ids, id_beside, ids_of, lowest_free, memory_device_id, memory_device_ids, with_id, with_ids};
 
 use crate::texts::has_text;
 use chv_defs::{DiskConfig, Row, Text, ZoneConfig, copy_of};
@@ -25,10 +25,16 @@ fn memory_device_ids(alloc: Global, zones: &[ZoneConfig]) -> Result<Vec<Text>, A
     let mut ids = Vec::new(alloc);
     for zone in zones {
         if zone.hotplug > 0 {
-            ids.push(Text::new(format!(in alloc; "_mem_{}", zone.id.as_str())?))?;
+            ids.push(memory_device_id(alloc, zone)?)?;
         }
     }
     Ok(ids)
+}
+
+fn memory_device_id(alloc: Global, zone: &ZoneConfig) -> Result<Text, AllocError>
+    ensures { IfOk result (λ id. id ≡ memory_device_id zone.now) }
+{
+    Ok(Text::new(format!(in alloc; "_mem_{}", zone.id.as_str())?))
 }
 
 fn push_given_ids(ids: &mut Vec<Text>, disks: &[DiskConfig]) -> Result<(), AllocError>

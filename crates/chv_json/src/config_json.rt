@@ -1,20 +1,29 @@
 // A configuration as a JSON value. An object of serde_json keeps its keys in byte order.
-ghost use Rattle.chv_defs.specs.JsonTexts.{method_value, cpus_value, zone_value};
-ghost use Rattle.chv_defs.specs.JsonTexts.{memory_value, disk_value, config_value};
+ghost use Rattle.std.specs.Prelude.{◌≡◌, IfOk, ◌∷◌, [], codes};
+ghost use Rattle.serde_json.specs.Data.{boolean, string};
+ghost use Rattle.serde_json.specs.View.{members_view};
+ghost use Rattle.chv_defs.specs.JsonTexts.{members_of, whole, method_value, cpus_value};
+ghost use Rattle.chv_defs.specs.JsonTexts.{zone_value, memory_value, disk_value, config_value};
 
-use crate::to_json::{ToJson, array};
+use crate::to_json::{ToJson, put, put_all};
 use chv_defs::{CpuConfig, DiskConfig, Hotplug, MemConfig, VmConfig, ZoneConfig};
-use serde_json::{Value, json};
+use serde_json::{Map, Value};
 use std::alloc::{AllocError, Global};
+
+fn hotplug_name(way: Hotplug) -> &'static str
+    ensures { string result.now ≡ method_value way }
+{
+    match way {
+        Hotplug::Acpi => "Acpi",
+        Hotplug::VirtioMem => "VirtioMem",
+    }
+}
 
 impl ToJson for Hotplug {
     ghost json = { method_value };
 
     fn to_json(&self, alloc: Global) -> Result<Value, AllocError> {
-        match self {
-            Hotplug::Acpi => json!(in alloc; "Acpi"),
-            Hotplug::VirtioMem => json!(in alloc; "VirtioMem"),
-        }
+        Value::try_from_str(alloc, hotplug_name(*self))
     }
 }
 
@@ -22,7 +31,10 @@ impl ToJson for CpuConfig {
     ghost json = { cpus_value };
 
     fn to_json(&self, alloc: Global) -> Result<Value, AllocError> {
-        json!(in alloc; {"boot_vcpus": self.boot, "max_vcpus": self.max})
+        let mut object = Map::new(alloc);
+        put(&mut object, alloc, "boot_vcpus", &self.boot)?;
+        put(&mut object, alloc, "max_vcpus", &self.max)?;
+        Ok(Value::Object(object))
     }
 }
 
@@ -30,12 +42,12 @@ impl ToJson for ZoneConfig {
     ghost json = { zone_value };
 
     fn to_json(&self, alloc: Global) -> Result<Value, AllocError> {
-        json!(in alloc; {
-            "hotplug_size": self.hotplug,
-            "hotplugged_size": self.hotplugged,
-            "id": self.id.as_str(),
-            "size": self.size,
-        })
+        let mut object = Map::new(alloc);
+        put(&mut object, alloc, "hotplug_size", &self.hotplug)?;
+        put(&mut object, alloc, "hotplugged_size", &self.hotplugged)?;
+        put(&mut object, alloc, "id", &self.id)?;
+        put(&mut object, alloc, "size", &self.size)?;
+        Ok(Value::Object(object))
     }
 }
 
@@ -43,37 +55,37 @@ impl ToJson for MemConfig {
     ghost json = { memory_value };
 
     fn to_json(&self, alloc: Global) -> Result<Value, AllocError> {
-        let method = self.way.to_json(alloc)?;
-        let zones = array(alloc, self.zones.as_slice())?;
-        json!(in alloc; {
-            "hotplug_method": method,
-            "hotplug_size": self.hotplug,
-            "hotplugged_size": self.hotplugged,
-            "size": self.size,
-            "zones": zones,
-        })
+        let mut object = Map::new(alloc);
+        put(&mut object, alloc, "hotplug_method", &self.way)?;
+        put(&mut object, alloc, "hotplug_size", &self.hotplug)?;
+        put(&mut object, alloc, "hotplugged_size", &self.hotplugged)?;
+        put(&mut object, alloc, "size", &self.size)?;
+        put_all(&mut object, alloc, "zones", self.zones.as_slice())?;
+        Ok(Value::Object(object))
     }
+}
+
+// The members that every disk has.
+fn disk_members(alloc: Global, disk: &DiskConfig) -> Result<Map<String, Value>, AllocError>
+    ensures { IfOk result (λ m. members_view m.entries ≡ members_of ((codes "num_queues", whole disk.now.queues) ∷ (codes "path", string disk.now.path) ∷ (codes "queue_size", whole disk.now.queue_size) ∷ (codes "readonly", boolean disk.now.readonly) ∷ [])) }
+{
+    let mut object = Map::new(alloc);
+    put(&mut object, alloc, "num_queues", &disk.queues)?;
+    put(&mut object, alloc, "path", &disk.path)?;
+    put(&mut object, alloc, "queue_size", &disk.queue_size)?;
+    put(&mut object, alloc, "readonly", &disk.readonly)?;
+    Ok(object)
 }
 
 impl ToJson for DiskConfig {
     ghost json = { disk_value };
 
     fn to_json(&self, alloc: Global) -> Result<Value, AllocError> {
-        match &self.id {
-            Some(id) => json!(in alloc; {
-                "id": id.as_str(),
-                "num_queues": self.queues,
-                "path": self.path.as_str(),
-                "queue_size": self.queue_size,
-                "readonly": self.readonly,
-            }),
-            None => json!(in alloc; {
-                "num_queues": self.queues,
-                "path": self.path.as_str(),
-                "queue_size": self.queue_size,
-                "readonly": self.readonly,
-            }),
+        let mut object = disk_members(alloc, self)?;
+        if let Some(id) = &self.id {
+            put(&mut object, alloc, "id", id)?;
         }
+        Ok(Value::Object(object))
     }
 }
 
@@ -81,9 +93,10 @@ impl ToJson for VmConfig {
     ghost json = { config_value };
 
     fn to_json(&self, alloc: Global) -> Result<Value, AllocError> {
-        let cpus = self.cpus.to_json(alloc)?;
-        let disks = array(alloc, self.disks.as_slice())?;
-        let memory = self.memory.to_json(alloc)?;
-        json!(in alloc; {"cpus": cpus, "disks": disks, "memory": memory})
+        let mut object = Map::new(alloc);
+        put(&mut object, alloc, "cpus", &self.cpus)?;
+        put_all(&mut object, alloc, "disks", self.disks.as_slice())?;
+        put(&mut object, alloc, "memory", &self.memory)?;
+        Ok(Value::Object(object))
     }
 }

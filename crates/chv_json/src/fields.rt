@@ -96,10 +96,7 @@ pub(crate) fn object_or<'v>(
 pub(crate) fn whole(object: &Value, key: &str) -> Result<u64, Rule>
     ensures { result ≡ bodies.needed bodies.a_whole key.now (view object.now) }
 {
-    match field(object, key) {
-        Some(value) => a_whole(value),
-        None => Err(Rule::Missing),
-    }
+    a_whole(field(object, key).ok_or(Rule::Missing)?)
 }
 
 /// A number, or `absent` where there is none.

@@ -1,13 +1,13 @@
 // What vm.info and vm.counters show, as JSON values.
 ghost use Rattle.std.specs.Prelude.{◌≡◌, IfOk, string_bytes, ◌<◌};
-ghost use Rattle.serde_json.specs.Data.{no_members};
+ghost use Rattle.serde_json.specs.Data.{no_members, string};
 ghost use Rattle.serde_json.specs.View.{view};
 ghost use Rattle.chv_defs.specs.JsonTexts.{bdf_text, device_value, zone_info_value};
 ghost use Rattle.chv_defs.specs.JsonTexts.{state_value, info_value, count_value, counters_value};
 
-use crate::to_json::{ToJson, array};
+use crate::to_json::{ToJson, put, put_all};
 use chv_defs::{CountOf, DeviceInfo, DiskCount, Info, ShownState, ZoneInfo};
-use serde_json::{Map, Value, json};
+use serde_json::{Map, Value};
 use std::alloc::{AllocError, Global};
 
 fn bdf(alloc: Global, slot: u8) -> Result<String, AllocError>
@@ -20,8 +20,11 @@ impl ToJson for DeviceInfo {
     ghost json = { device_value };
 
     fn to_json(&self, alloc: Global) -> Result<Value, AllocError> {
-        let bdf = bdf(alloc, self.slot)?;
-        json!(in alloc; {"bdf": bdf, "id": self.id.as_str()})
+        let bdf = Value::String(bdf(alloc, self.slot)?);
+        let mut object = Map::new(alloc);
+        serde_json::put(&mut object, alloc, "bdf", bdf)?;
+        put(&mut object, alloc, "id", &self.id)?;
+        Ok(Value::Object(object))
     }
 }
 
@@ -29,11 +32,22 @@ impl ToJson for ZoneInfo {
     ghost json = { zone_info_value };
 
     fn to_json(&self, alloc: Global) -> Result<Value, AllocError> {
-        json!(in alloc; {
-            "id": self.id.as_str(),
-            "plugged_size": self.plugged_size,
-            "requested_size": self.requested_size,
-        })
+        let mut object = Map::new(alloc);
+        put(&mut object, alloc, "id", &self.id)?;
+        put(&mut object, alloc, "plugged_size", &self.plugged_size)?;
+        put(&mut object, alloc, "requested_size", &self.requested_size)?;
+        Ok(Value::Object(object))
+    }
+}
+
+fn state_name(state: ShownState) -> &'static str
+    ensures { string result.now ≡ state_value state }
+{
+    match state {
+        ShownState::Created => "Created",
+        ShownState::Running => "Running",
+        ShownState::Paused => "Paused",
+        ShownState::Shutdown => "Shutdown",
     }
 }
 
@@ -41,12 +55,7 @@ impl ToJson for ShownState {
     ghost json = { state_value };
 
     fn to_json(&self, alloc: Global) -> Result<Value, AllocError> {
-        match self {
-            ShownState::Created => json!(in alloc; "Created"),
-            ShownState::Running => json!(in alloc; "Running"),
-            ShownState::Paused => json!(in alloc; "Paused"),
-            ShownState::Shutdown => json!(in alloc; "Shutdown"),
-        }
+        Value::try_from_str(alloc, state_name(*self))
     }
 }
 
@@ -54,19 +63,14 @@ impl ToJson for Info {
     ghost json = { info_value };
 
     fn to_json(&self, alloc: Global) -> Result<Value, AllocError> {
-        let config = self.config.to_json(alloc)?;
-        let devices = array(alloc, self.devices.as_slice())?;
-        let state = self.state.to_json(alloc)?;
-        let vcpus = array(alloc, self.vcpus.as_slice())?;
-        let zones = array(alloc, self.zones.as_slice())?;
-        json!(in alloc; {
-            "config": config,
-            "devices": devices,
-            "memory_actual_size": self.actual_size,
-            "state": state,
-            "vcpus": vcpus,
-            "zones": zones,
-        })
+        let mut object = Map::new(alloc);
+        put(&mut object, alloc, "config", &self.config)?;
+        put_all(&mut object, alloc, "devices", self.devices.as_slice())?;
+        put(&mut object, alloc, "memory_actual_size", &self.actual_size)?;
+        put(&mut object, alloc, "state", &self.state)?;
+        put_all(&mut object, alloc, "vcpus", self.vcpus.as_slice())?;
+        put_all(&mut object, alloc, "zones", self.zones.as_slice())?;
+        Ok(Value::Object(object))
     }
 }
 
@@ -74,12 +78,12 @@ impl ToJson for DiskCount {
     ghost json = { count_value };
 
     fn to_json(&self, alloc: Global) -> Result<Value, AllocError> {
-        json!(in alloc; {
-            "read_bytes": self.read_bytes,
-            "read_ops": self.reads,
-            "write_bytes": self.write_bytes,
-            "write_ops": self.writes,
-        })
+        let mut object = Map::new(alloc);
+        put(&mut object, alloc, "read_bytes", &self.read_bytes)?;
+        put(&mut object, alloc, "read_ops", &self.reads)?;
+        put(&mut object, alloc, "write_bytes", &self.write_bytes)?;
+        put(&mut object, alloc, "write_ops", &self.writes)?;
+        Ok(Value::Object(object))
     }
 }
 
@@ -89,8 +93,7 @@ pub(crate) fn counters(alloc: Global, counts: &[CountOf]) -> Result<Value, Alloc
 {
     let mut members = Map::new(alloc);
     for count in counts {
-        let value = count.count.to_json(alloc)?;
-        serde_json::put(&mut members, alloc, count.id.as_str(), value)?;
+        put(&mut members, alloc, count.id.as_str(), &count.count)?;
     }
     Ok(Value::Object(members))
 }

@@ -1,10 +1,11 @@
 // What has a JSON value.
-ghost use Rattle.std.specs.Prelude.{◌≡◌, IfOk};
-ghost use Rattle.serde_json.specs.Data.{Data};
-ghost use Rattle.serde_json.specs.View.{view};
+ghost use Rattle.std.specs.Prelude.{◌≡◌, IfOk, OnOk, ◌++◌, ◌∷◌, [], map};
+ghost use Rattle.serde_json.specs.Data.{Data, boolean, string, put as with_member};
+ghost use Rattle.serde_json.specs.View.{view, members_view};
 ghost use Rattle.chv_defs.specs.JsonTexts.{array_of, whole};
 
-use serde_json::Value;
+use chv_defs::Text;
+use serde_json::{Map, Value};
 use std::alloc::{AllocError, Global};
 
 /// What is written as one JSON value.
@@ -20,11 +21,45 @@ pub(crate) trait ToJson {
 pub(crate) fn array<T: ToJson>(alloc: Global, items: &[T]) -> Result<Value, AllocError>
     ensures { IfOk result (λ v. view v ≡ array_of T.json items.now) }
 {
-    let mut values = Vec::with_capacity(alloc, items.len())?;
+    let mut values = Vec::new(alloc);
     for item in items {
-        values.push(item.to_json(alloc)?)?;
+        push(&mut values, alloc, item)?;
     }
     Ok(Value::Array(values))
+}
+
+fn push<T: ToJson>(values: &mut Vec<Value>, alloc: Global, item: &T) -> Result<(), AllocError>
+    ensures { OnOk result (map view values.new.items ≡ map view values.old.items ++ T.json item.now ∷ []) }
+{
+    let value = item.to_json(alloc)?;
+    values.push(value)?;
+    Ok(())
+}
+
+/// Gives an object a member: the value of something, at a key.
+pub(crate) fn put<T: ToJson>(
+    object: &mut Map<String, Value>,
+    alloc: Global,
+    key: &str,
+    item: &T,
+) -> Result<(), AllocError>
+    ensures { OnOk result (members_view object.new.entries ≡ with_member key.now (T.json item.now) (members_view object.old.entries)) }
+{
+    let value = item.to_json(alloc)?;
+    serde_json::put(object, alloc, key, value)
+}
+
+/// The same, with an array of the values of some items.
+pub(crate) fn put_all<T: ToJson>(
+    object: &mut Map<String, Value>,
+    alloc: Global,
+    key: &str,
+    items: &[T],
+) -> Result<(), AllocError>
+    ensures { OnOk result (members_view object.new.entries ≡ with_member key.now (array_of T.json items.now) (members_view object.old.entries)) }
+{
+    let value = array(alloc, items)?;
+    serde_json::put(object, alloc, key, value)
 }
 
 impl ToJson for u8 {
@@ -32,5 +67,29 @@ impl ToJson for u8 {
 
     fn to_json(&self, _alloc: Global) -> Result<Value, AllocError> {
         Ok(Value::from(*self))
+    }
+}
+
+impl ToJson for u64 {
+    ghost json = { whole };
+
+    fn to_json(&self, _alloc: Global) -> Result<Value, AllocError> {
+        Ok(Value::from(*self))
+    }
+}
+
+impl ToJson for bool {
+    ghost json = { boolean };
+
+    fn to_json(&self, _alloc: Global) -> Result<Value, AllocError> {
+        Ok(Value::from(*self))
+    }
+}
+
+impl ToJson for Text {
+    ghost json = { string };
+
+    fn to_json(&self, alloc: Global) -> Result<Value, AllocError> {
+        Value::try_from_str(alloc, self.as_str())
     }
 }

@@ -43,7 +43,6 @@ pub fn disk_text(alloc: Global, disk: &DiskConfig) -> Result<Text, AllocError>
 
 /// The text of a device and its PCI address, which answers a disk that was added to a machine that
 /// is booted.
-#[tactic(auto, unfolding(chv_defs::specs::JsonTexts::device_text))]
 pub fn device_text(alloc: Global, device: &DeviceInfo) -> Result<Text, AllocError>
     ensures { IfOk result (λ t. t ≡ texts.device_text device.now) }
 {

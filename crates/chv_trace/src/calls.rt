@@ -80,7 +80,6 @@ fn take_text(alloc: Global, role: Role) -> Result<String, AllocError>
     }
 }
 
-#[tactic(auto, using(crate::proofs::Joined::regrouped))]
 fn mem_text(alloc: Global, slot: u8, request: MemRequest) -> Result<String, AllocError>
     ensures { IfOk result (λ shown. string_bytes shown ≡ text.call_text (ControlCall.Mem slot request)) }
 {

@@ -32,7 +32,6 @@ fn cpu_text(alloc: Global, note: &CpuNote) -> Result<String, AllocError>
     format!(in alloc; "cpu {vcpu} {pos} {fuel} {halted}{regs}")
 }
 
-#[tactic(auto, using(crate::proofs::Joined::regrouped))]
 fn queue_text(alloc: Global, note: &QueueNote) -> Result<String, AllocError>
     ensures { IfOk result (λ shown. string_bytes shown ≡ text.note_text (ContextNote.Queue note.now)) }
 {
@@ -44,7 +43,6 @@ fn queue_text(alloc: Global, note: &QueueNote) -> Result<String, AllocError>
 }
 
 // What a disk has done: requests and bytes, each after a space.
-#[tactic(auto, using(crate::proofs::Joined::regrouped))]
 fn count_fields(alloc: Global, count: DiskCount) -> Result<String, AllocError>
     ensures { IfOk result (λ shown. string_bytes shown ≡ field (dec_text count.reads) ++ field (dec_text count.writes) ++ field (dec_text count.read_bytes) ++ field (dec_text count.write_bytes)) }
 {
@@ -56,7 +54,6 @@ fn count_fields(alloc: Global, count: DiskCount) -> Result<String, AllocError>
 }
 
 /// How a context comes home: its state, how its slice ended, and the books of its entries.
-#[tactic(auto, using(crate::proofs::Joined::regrouped))]
 pub(crate) fn hand_text(alloc: Global, hand: &HandNote) -> Result<String, AllocError>
     ensures { IfOk result (λ shown. string_bytes shown ≡ text.call_text (ControlCall.Hand hand.now)) }
 {
@@ -78,7 +75,6 @@ fn slice_end_text(alloc: Global, end: SliceEnd) -> Result<String, AllocError>
     }
 }
 
-#[tactic(auto, using(crate::proofs::Joined::regrouped))]
 fn sealed_text(alloc: Global, book: BookId, block: u32, seen: u64) -> Result<String, AllocError>
     ensures { IfOk result (λ shown. string_bytes shown ≡ text.slice_end_text (SliceEnd.Sealed book block seen)) }
 {

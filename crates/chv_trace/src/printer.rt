@@ -66,7 +66,6 @@ fn push_head<K: Sink>(
     push(out, buffer, head.as_str())
 }
 
-#[tactic(auto, using(crate::proofs::Joined::regrouped))]
 fn head(alloc: Global, entries: usize) -> Result<String, AllocError>
     ensures { IfOk result (λ head. string_bytes head ≡ head_text entries) }
 {
@@ -107,7 +106,6 @@ fn push_entry<K: Sink>(
 }
 
 /// The line of an entry: the caller, the call, an arrow, the reply.
-#[tactic(auto, using(crate::proofs::Joined::regrouped))]
 pub(crate) fn entry_line(alloc: Global, entry: &ControlEntry) -> Result<String, AllocError>
     ensures { IfOk result (λ line. string_bytes line ≡ control_line entry.now) }
 {

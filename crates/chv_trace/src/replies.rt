@@ -1,5 +1,6 @@
 // Control replies.
 ghost use Rattle.std.specs.Prelude.{◌≡◌, IfOk, string_bytes};
+ghost use Rattle.chv_defs.specs.JsonTexts.{device_text};
 ghost use Rattle.chv_defs.specs.TraceText as text;
 
 use crate::fields::after_word;
@@ -38,9 +39,14 @@ pub(crate) fn reply_text(alloc: Global, reply: &ControlReply) -> Result<String, 
 fn added_text(alloc: Global, id: &Text, slot: u8) -> Result<String, AllocError>
     ensures { IfOk result (λ shown. string_bytes shown ≡ text.reply_text (ControlReply.Added id.now slot)) }
 {
+    after_word(alloc, "added ", device(alloc, id, slot)?.as_str())
+}
+
+fn device(alloc: Global, id: &Text, slot: u8) -> Result<Text, AllocError>
+    ensures { IfOk result (λ shown. shown ≡ device_text (record { slot = slot; id = id.now })) }
+{
     let id = id.clone()?;
-    let device = DeviceInfo { slot, id };
-    after_word(alloc, "added ", device_text(alloc, &device)?.as_str())
+    device_text(alloc, &DeviceInfo { slot, id })
 }
 
 // A rule, with the place for an image that is refused.
@@ -59,7 +65,6 @@ fn value_text(alloc: Global, value: u64) -> Result<String, AllocError>
     format!(in alloc; "value 0x{value:x}")
 }
 
-#[tactic(auto, using(crate::proofs::Joined::regrouped))]
 fn answer_text(alloc: Global, answer: MemAnswer) -> Result<String, AllocError>
     ensures { IfOk result (λ shown. string_bytes shown ≡ text.reply_text (ControlReply.Answer answer)) }
 {

@@ -1,6 +1,8 @@
 // The sessions of a trace.
-ghost use Rattle.std.specs.Prelude.{◌≡◌, ◌≤◌, ◌++◌, OnOk, OnErr, codes, flat_map, string_bytes};
+ghost use Rattle.std.specs.Prelude.{◌≡◌, ◌≤◌, ◌++◌, IfOk, OnOk, OnErr, codes, flat_map, string_bytes};
 ghost use Rattle.chv_defs.specs.Outside.{Rose};
+ghost use Rattle.chv_defs.specs.Numbers.{dec_text};
+ghost use Rattle.chv_defs.specs.ScriptText.{field};
 ghost use Rattle.chv_defs.specs.TraceText.{pairs_or_dash, session_end_text, session_part};
 ghost use Rattle.chv_trace.specs.Printing.{Adds, BreaksOff, end_line};
 
@@ -8,7 +10,7 @@ use crate::PrintError;
 use crate::pieces::{push, push_pairs};
 use chv_defs::{Bytes, SessionEnd, SessionTrace};
 use chv_io::Sink;
-use std::alloc::Global;
+use std::alloc::{AllocError, Global};
 
 /// Adds the parts of sessions, one after another.
 pub(crate) fn push_sessions<K: Sink>(
@@ -57,10 +59,15 @@ fn push_end<K: Sink>(
     ensures cause { result ≡ Err PrintError.Failed → Rose (K.write_faults out.old) (K.write_faults out.new) }
     ensures later { K.write_faults out.old ≤ K.write_faults out.new }
 {
-    let number = session.session;
-    let end = end_text(session.log.end);
-    let line = format!(in alloc; "session {number} {end}\n")?;
+    let line = end_line(alloc, session.session, session.log.end)?;
     push(out, buffer, line.as_str())
+}
+
+fn end_line(alloc: Global, number: u8, end: SessionEnd) -> Result<String, AllocError>
+    ensures { IfOk result (λ line. string_bytes line ≡ codes "session" ++ field (dec_text number) ++ field (session_end_text end) ++ codes "\n") }
+{
+    let end = end_text(end);
+    format!(in alloc; "session {number} {end}\n")
 }
 
 fn end_text(end: SessionEnd) -> &'static str
