@@ -7,6 +7,7 @@ pub mod EachLemmas
 pub mod SeatLemmas
 pub mod NextLemmas
 pub mod OrderLemmas
+pub mod AskLemmas
 pub mod DeskLemmas
 pub mod LeadLemmas
 pub mod RoundLoopLemmas
