@@ -7,8 +7,8 @@ pub mod EachLemmas
 pub mod SeatLemmas
 pub mod NextLemmas
 pub mod OrderLemmas
-pub mod AskLemmas
 pub mod DeskLemmas
+pub mod AskLemmas
 pub mod LeadLemmas
 pub mod RoundLoopLemmas
 pub mod PlayedLemmas

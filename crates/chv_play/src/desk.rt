@@ -49,7 +49,7 @@ impl<D: Disk> PlayDesk<D> {
         // What the control value tells of its history.
         let _history = self.control.history();
         self.caller = caller;
-        self.refused = None;
+        drop(self.refused.take());
     }
 
     /// The book that was full for a call of this turn, where it was.
@@ -63,10 +63,7 @@ impl<D: Disk> PlayDesk<D> {
     }
 
     // Makes a call of the session whose turn it is.
-    fn make(
-        &mut self,
-        call: &ControlCall,
-    ) -> Result<Result<ControlReply, Stopped>, AllocError>
+    fn make(&mut self, call: &ControlCall) -> Result<Result<ControlReply, Stopped>, AllocError>
         requires may { MayCall self.old.control.machine self.old.caller call.now }
         requires session { is_session_call call.now ≡ true }
         ensures { IsAnswered (shelf_of (sectors_of D.sector_count) self.old.control.disks) self.old call.now self.new result }
@@ -96,7 +93,7 @@ impl<D: Disk> PlayDesk<D> {
     fn keep(&mut self, refused: Refused)
         ensures { self.new ≡ record self.old { refused = Some refused } }
     {
-        self.refused = Some(refused);
+        drop(self.refused.replace(refused));
     }
 
     /// The control value.
@@ -106,8 +103,9 @@ impl<D: Disk> PlayDesk<D> {
         let PlayDesk {
             control,
             caller: _caller,
-            refused: _refused,
+            refused,
         } = self;
+        drop(refused);
         control
     }
 }
