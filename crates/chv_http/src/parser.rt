@@ -1,9 +1,11 @@
 // Requests cut from a stream that comes in pieces.
 ghost use Rattle.std.specs.Prelude.{◌≡◌, ◌≤◌, ◌+◌, ◌==◌, [], ◌++◌, length, drop, take, IfOk, OnOk, OnErr, vec_len};
-ghost use Rattle.chv_defs.specs.Requests.{Cuts};
+ghost use Rattle.chv_defs.specs.Requests.{BeginsWith, Cuts};
+ghost use Rattle.chv_http.specs.Head.{Awaits};
 
+use crate::head::Head;
 use crate::stage::Stage;
-use chv_defs::Took;
+use chv_defs::{Request, Took};
 use std::alloc::{AllocError, Global};
 use std::marker::Model;
 
@@ -75,13 +77,21 @@ impl Parser {
             Stage::Front { .. } => Ok(Took::NotYet),
             Stage::Bad(rule) => Ok(Took::Bad(rule)),
             Stage::Body(head) if rest.len() - head.len < head.body => Ok(Took::NotYet),
-            Stage::Body(head) => {
-                let request = head.request(self.alloc, rest)?;
-                self.start = release(&mut self.buffer, self.start + head.len + head.body);
-                self.stage = Stage::UNSEEN;
-                Ok(Took::Request(request))
-            }
+            Stage::Body(head) => Ok(Took::Request(self.give(head)?)),
         }
+    }
+
+    /// The request of this head, whose body is there whole, taken away. After want of memory nothing has changed.
+    fn give(&mut self, head: Head) -> Result<Request, AllocError>
+        requires head { Awaits self.old head }
+        requires whole { head.len + head.body ≤ length self.old }
+        ensures given { IfOk result (λ request. BeginsWith self.old request self.new) }
+        ensures err { OnErr result (self.new ≡ self.old) }
+    {
+        let request = head.request(self.alloc, from(self.buffer.as_slice(), self.start))?;
+        self.start = release(&mut self.buffer, self.start + head.len + head.body);
+        self.stage = Stage::UNSEEN;
+        Ok(request)
     }
 }
 

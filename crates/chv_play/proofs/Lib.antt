@@ -8,6 +8,7 @@ pub mod SeatLemmas
 pub mod NextLemmas
 pub mod OrderLemmas
 pub mod DeskLemmas
+pub mod AskLemmas
 pub mod LeadLemmas
 pub mod RoundLoopLemmas
 pub mod PlayedLemmas

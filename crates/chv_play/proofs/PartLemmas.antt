@@ -1,21 +1,27 @@
 -- A stream to which parts were appended.
 use Rattle.std.proofs.Common.{◌≡◌, ℕ, List, ◌++◌, sym, ap, ◌∙◌, append_assoc}
+use Rattle.chv_defs.specs.Replies.{line_end}
 
-one_more : (s t u a b : List ℕ) → t ≡ s ++ a → u ≡ t ++ b → u ≡ s ++ (a ++ b)
-one_more s t u a b first second = second ∙ ap (λ (l : List ℕ). l ++ b) first ∙ append_assoc s a b
+-- one part behind another
+pub two_parts : (s t u a b : List ℕ) → t ≡ s ++ a → u ≡ t ++ b → u ≡ s ++ (a ++ b)
+two_parts s t u a b first second = second ∙ ap (λ (l : List ℕ). l ++ b) first ∙ append_assoc s a b
 
-two_more : (s t u a b c : List ℕ) → t ≡ s ++ a → u ≡ t ++ (b ++ c) → u ≡ s ++ ((a ++ b) ++ c)
-two_more s t u a b c first second =
-    one_more s t u a (b ++ c) first second ∙ ap (λ (l : List ℕ). s ++ l) (sym (append_assoc a b c))
+pub three_parts : (s t u v a b c : List ℕ) → t ≡ s ++ a → u ≡ t ++ b → v ≡ u ++ c → v ≡ s ++ ((a ++ b) ++ c)
+three_parts s t u v a b c first second third = two_parts s u v (a ++ b) c (two_parts s t u a b first second) third
 
--- a GET request: the last two parts at once
-pub get_parts : (s t u v a b c d : List ℕ) → t ≡ s ++ a → u ≡ t ++ b → v ≡ u ++ (c ++ d) → v ≡ s ++ (((a ++ b) ++ c) ++ d)
-get_parts s t u v a b c d first second third = two_more s u v (a ++ b) c d (one_more s t u a b first second) third
+-- a header, whose two line ends were appended at once
+pub header_parts : (s t header name digits : List ℕ) → header ≡ name ++ (digits ++ (line_end ++ line_end)) → t ≡ s ++ header
+    → t ≡ s ++ (((name ++ digits) ++ line_end) ++ line_end)
+header_parts s t header name digits is appended = appended ∙ ap (λ (l : List ℕ). s ++ l) (is ∙ regrouped)
+  where
+    regrouped : name ++ (digits ++ (line_end ++ line_end)) ≡ ((name ++ digits) ++ line_end) ++ line_end
+    regrouped = sym (append_assoc name digits (line_end ++ line_end)) ∙ sym (append_assoc (name ++ digits) line_end line_end)
 
--- a PUT request: the third and fourth part at once, and the sixth and seventh
-pub put_parts : (s t u v w x y a b c d e f g h : List ℕ) → t ≡ s ++ a → u ≡ t ++ b → v ≡ u ++ (c ++ d) → w ≡ v ++ e
-    → x ≡ w ++ (f ++ g) → y ≡ x ++ h → y ≡ s ++ (((((((a ++ b) ++ c) ++ d) ++ e) ++ f) ++ g) ++ h)
-put_parts s t u v w x y a b c d e f g h first second third fourth fifth sixth =
-    let head = get_parts s t u v a b c d first second third in
-    let number = one_more s v w (((a ++ b) ++ c) ++ d) e head fourth in
-    one_more s x y ((((((a ++ b) ++ c) ++ d) ++ e) ++ f) ++ g) h (two_more s w x ((((a ++ b) ++ c) ++ d) ++ e) f g number fifth) sixth
+-- a front, a header in four parts, and a body
+pub put_parts : (s t u v f a b c d body : List ℕ) → t ≡ s ++ f → u ≡ t ++ (((a ++ b) ++ c) ++ d) → v ≡ u ++ body
+    → v ≡ s ++ (((((f ++ a) ++ b) ++ c) ++ d) ++ body)
+put_parts s t u v f a b c d body first second third =
+    three_parts s t u v f (((a ++ b) ++ c) ++ d) body first second third ∙ ap (λ (l : List ℕ). s ++ (l ++ body)) regrouped
+  where
+    regrouped : f ++ (((a ++ b) ++ c) ++ d) ≡ (((f ++ a) ++ b) ++ c) ++ d
+    regrouped = simp append_assoc

@@ -1,9 +1,12 @@
 -- What asking a call at the desk of the sessions that are played brings about.
-use Rattle.std.specs.Prelude.{◌≡◌, ◌⊎◌, ℕ, List, Option, None, Some}
+use Rattle.std.specs.Prelude.{◌≡◌, ◌⊎◌, ℕ, true, List, Option, None, Some, Result, Ok, Err}
 use Rattle.chv_defs.specs.declared.bank.Full.{Full}
 use Rattle.chv_defs.specs.declared.scene.OnShelf.{OnShelf}
 use Rattle.chv_defs.specs.declared.control.ControlCall.{ControlCall}
 use Rattle.chv_defs.specs.declared.control.ControlEntry.{ControlEntry}
+use Rattle.chv_defs.specs.declared.control.ControlReply.{ControlReply}
+use Rattle.chv_defs.specs.ApiStep.{reply_to}
+use Rattle.chv_defs.specs.Desks.{can_have}
 use Rattle.chv_defs.specs.ControlBook.{full_at}
 use Rattle.chv_control.specs.Control.{Controlled, entered, entry_of}
 use Rattle.chv_play.specs.declared.desk.PlayDesk.{PlayDesk}
@@ -41,3 +44,10 @@ pub record IsRefused {D : Type 0} (shelf : List OnShelf) (before : PlayDesk D) (
 -- A call that is asked is entered; or the book is full for it; or nothing changes, where memory is wanting.
 abbrev pub IsAskedOf : {D : Type 0} → List OnShelf → PlayDesk D → ControlCall → PlayDesk D → Type 0
 IsAskedOf shelf before call after = IsEntered shelf before call after ⊎ IsRefused shelf before call after ⊎ (after ≡ before)
+
+-- A call is entered, and answered by its rules; or it is refused; or nothing changes, where memory is wanting.
+abbrev pub IsAnswered : {D S E : Type 0} → List OnShelf → PlayDesk D → ControlCall → PlayDesk D → Result (Result ControlReply S) E → Type 0
+IsAnswered shelf before call after (Ok (Ok reply)) =
+    IsEntered shelf before call after × (reply ≡ reply_to shelf before.control.machine call) × (can_have call reply ≡ true)
+IsAnswered shelf before call after (Ok (Err stopped)) = IsRefused shelf before call after
+IsAnswered shelf before call after (Err error) = after ≡ before

@@ -1,8 +1,10 @@
 // The desk of the sessions that are played.
-ghost use Rattle.std.specs.Prelude.{◌≡◌, ◌≢◌, ◌≤◌, false, None};
+ghost use Rattle.std.specs.Prelude.{◌≡◌, ◌≢◌, ◌≤◌, true, false, None, Some};
 ghost use Rattle.chv_defs.specs.Desks.{is_held};
 ghost use Rattle.chv_defs.specs.LegalControl.{answers_by};
-ghost use Rattle.chv_play.specs.Desk.{full_of};
+ghost use Rattle.chv_defs.specs.ControlStep.{MayCall};
+ghost use Rattle.chv_defs.specs.Desks.{is_session_call};
+ghost use Rattle.chv_play.specs.Desk.{full_of, full_for, IsAnswered};
 
 use chv_control::{Control, Inner};
 use chv_defs::{ControlCall, ControlReply, Desk, Full, Stopped, copy_of};
@@ -25,6 +27,8 @@ pub(crate) struct PlayDesk<D: Disk> {
 }
 
 impl<D: Disk> PlayDesk<D> {
+    ghost use Rattle.chv_control.specs.Shelf.{shelf_of, sectors_of};
+
     /// A desk at this control value, before the first turn.
     pub(crate) fn new(control: Control<D>) -> PlayDesk<D>
         ensures { result.control ≡ control }
@@ -45,7 +49,7 @@ impl<D: Disk> PlayDesk<D> {
         // What the control value tells of its history.
         let _history = self.control.history();
         self.caller = caller;
-        self.refused = None;
+        drop(self.refused.take());
     }
 
     /// The book that was full for a call of this turn, where it was.
@@ -58,6 +62,40 @@ impl<D: Disk> PlayDesk<D> {
         }
     }
 
+    // Makes a call of the session whose turn it is.
+    fn make(&mut self, call: &ControlCall) -> Result<Result<ControlReply, Stopped>, AllocError>
+        requires may { MayCall self.old.control.machine self.old.caller call.now }
+        requires session { is_session_call call.now ≡ true }
+        ensures { IsAnswered (shelf_of (sectors_of D.sector_count) self.old.control.disks) self.old call.now self.new result }
+    {
+        match self.control.apply(self.caller, call)? {
+            Ok(reply) => Ok(Ok(reply)),
+            Err(Inner::Full(full)) => self.refuse(call, full),
+            Err(_) => unreachable!(),
+        }
+    }
+
+    // Keeps a call with the book that is full for it.
+    fn refuse(
+        &mut self,
+        call: &ControlCall,
+        full: Full,
+    ) -> Result<Result<ControlReply, Stopped>, AllocError>
+        requires { full_for (shelf_of (sectors_of D.sector_count) self.old.control.disks) self.old.control self.old.caller call.now
+            ≡ Some full }
+        ensures { IsAnswered (shelf_of (sectors_of D.sector_count) self.old.control.disks) self.old call.now self.new result }
+    {
+        let call = copy_of(call)?;
+        self.keep(Refused { call, full });
+        Ok(Err(Stopped))
+    }
+
+    fn keep(&mut self, refused: Refused)
+        ensures { self.new ≡ record self.old { refused = Some refused } }
+    {
+        drop(self.refused.replace(refused));
+    }
+
     /// The control value.
     pub(crate) fn into_control(self) -> Control<D>
         ensures { result ≡ self.control }
@@ -65,8 +103,9 @@ impl<D: Disk> PlayDesk<D> {
         let PlayDesk {
             control,
             caller: _caller,
-            refused: _refused,
+            refused,
         } = self;
+        drop(refused);
         control
     }
 }
@@ -90,16 +129,6 @@ impl<D: Disk> Desk<()> for PlayDesk<D> {
     ) -> Result<Result<ControlReply, Stopped>, AllocError> {
         // No caller's latest answer is Holding, as the history tells, so that no Settle comes.
         let _history = self.control.history();
-        match self.control.apply(self.caller, call)? {
-            Ok(reply) => Ok(Ok(reply)),
-            Err(Inner::Full(full)) => {
-                self.refused = Some(Refused {
-                    call: copy_of(call)?,
-                    full,
-                });
-                Ok(Err(Stopped))
-            }
-            Err(_) => unreachable!(),
-        }
+        self.make(call)
     }
 }

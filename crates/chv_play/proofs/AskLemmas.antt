@@ -1,0 +1,82 @@
+-- A call that is asked at the desk, by what the control value answers it.
+use Rattle.std.proofs.Common.{◌≡◌, inl, inr, ℕ, true, false, List, [], ◌∷◌, ◌++◌, Option, None, Some, Result, Ok, Err, IfOk, refl, sym, ap, ◌∙◌}
+use Rattle.chv_defs.specs.declared.bank.Full.{Full}
+use Rattle.chv_defs.specs.declared.scene.OnShelf.{OnShelf}
+use Rattle.chv_defs.specs.declared.machine.Machine.{Machine}
+use Rattle.chv_defs.specs.declared.control.ControlCall.{ControlCall}
+use Rattle.chv_defs.specs.declared.control.ControlCall.TheVariants as call
+use Rattle.chv_defs.specs.declared.control.ControlReply.{ControlReply}
+use Rattle.chv_defs.specs.declared.control.ControlEntry.{ControlEntry}
+use Rattle.chv_defs.specs.ApiStep.{reply_to}
+use Rattle.chv_defs.specs.ControlStep.{MayCall}
+use Rattle.chv_defs.specs.Desks.{Answer, MayAsk, can_have, is_held, is_session_call}
+use Rattle.chv_defs.specs.LegalControl.{answers_by}
+use Rattle.chv_control.specs.declared.inner.Inner.{Inner}
+use Rattle.chv_control.specs.declared.inner.Inner.TheVariants as inner
+use Rattle.chv_control.specs.Control.{Controlled, answer_to, entered, unless_full}
+use Rattle.chv_play.specs.declared.desk.PlayDesk.{PlayDesk}
+use Rattle.chv_play.specs.Desk.{IsAnswered, IsAskedOf, IsEntered, call_of, full_for}
+use Rattle.chv_play.proofs.DeskLemmas.{own_entry}
+
+-- a reply is the one that is due, in a book that has room
+has_room : (full : Option Full) (due reply : ControlReply) → Ok reply ≡ unless_full full due → (full ≡ None) × (reply ≡ due)
+has_room None due reply is = (refl, cc)
+has_room (Some full) due reply is = absurd (cc is)
+
+-- where there is none, this book is full
+pub no_room : (full : Option Full) (due : ControlReply) (book : Full) → Err (inner.Full book) ≡ unless_full full due → full ≡ Some book
+no_room None due book is = absurd (cc is)
+no_room (Some full) due book is = cc
+
+-- a call that was entered
+pub is_entered : {D : Type 0} (shelf : List OnShelf) (before : PlayDesk D) (call : ControlCall) (control : Controlled D) (reply : ControlReply)
+    → Ok reply ≡ answer_to shelf before.control before.caller call
+    → control ≡ entered before.control (record { caller = before.caller; call = call; reply = reply })
+    → IsEntered shelf before call (record before { control = control }) × (reply ≡ reply_to shelf before.control.machine call)
+is_entered {D} shelf before call control reply answer enters =
+    let due = reply_to shelf before.control.machine call in
+    let room = has_room (full_for shelf before.control before.caller call) due reply answer in
+    let entry : ControlReply → ControlEntry = λ r. record { caller = before.caller; call = call; reply = r } in (
+      record {
+        room = room.0;
+        enters = ap (λ (c : Controlled D). record before { control = c }) (enters ∙ ap (λ r. entered before.control (entry r)) room.1);
+      },
+      room.1,
+    )
+
+-- what a caller may ask that is not held, it may call
+pub may_call : (m : Machine) (caller : ℕ) (answers : List Answer) (c : ControlCall) → is_held answers ≡ false → MayAsk caller answers c
+    → MayCall m caller c × (is_session_call c ≡ true)
+may_call m caller answers call.Settle settled may = absurd (cc (settled, may.1))
+may_call m caller answers call.Stop settled may = absurd (cc may.1)
+may_call m caller answers c settled may = (may, may.1)
+
+-- ---- what asking a call leaves, by its answer
+
+pub is_asked : {D S E : Type 0} (shelf : List OnShelf) (before : PlayDesk D) (c : ControlCall) (after : PlayDesk D) (r : Result (Result ControlReply S) E)
+    → IsAnswered shelf before c after r → IsAskedOf shelf before c after
+is_asked {D} {S} {E} shelf before c after (Ok (Ok reply)) is = inl is.0
+is_asked {D} {S} {E} shelf before c after (Ok (Err stopped)) is = inr (inl is)
+is_asked {D} {S} {E} shelf before c after (Err error) is = inr (inr is)
+
+pub caller_stays : {D S E : Type 0} (shelf : List OnShelf) (before : PlayDesk D) (c : ControlCall) (after : PlayDesk D) (r : Result (Result ControlReply S) E)
+    → IsAnswered shelf before c after r → after.caller ≡ before.caller
+caller_stays {D} {S} {E} shelf before c after (Ok (Ok reply)) is = ap (λ (d : PlayDesk D). d.caller) is.0.enters
+caller_stays {D} {S} {E} shelf before c after (Ok (Err stopped)) is = ap (λ (d : PlayDesk D). d.caller) is.keeps
+caller_stays {D} {S} {E} shelf before c after (Err error) is = ap (λ (d : PlayDesk D). d.caller) is
+
+-- the calls that its caller made
+abbrev pub made_at : {D : Type 0} → PlayDesk D → List Answer
+made_at desk = answers_by desk.caller desk.control.history
+
+pub is_made : {D S E : Type 0} (shelf : List OnShelf) (before : PlayDesk D) (c : ControlCall) (after : PlayDesk D) (r : Result (Result ControlReply S) E)
+    → IsAnswered shelf before c after r
+    → IfOk r (λ answer. IfOk answer (λ reply.
+    (made_at after ≡ made_at before ++ record { call = c; reply = reply } ∷ []) × (call_of after.refused ≡ call_of before.refused)))
+is_made {D} {S} {E} shelf before c after (Ok (Ok reply)) is = (
+  ap made_at is.0.enters ∙ own_entry before.caller before.control.history c (reply_to shelf before.control.machine c)
+      ∙ ap (λ (r : ControlReply). made_at before ++ record { call = c; reply = r } ∷ []) (sym is.1),
+  ap (λ (d : PlayDesk D). call_of d.refused) is.0.enters,
+)
+is_made {D} {S} {E} shelf before c after (Ok (Err stopped)) is = tt
+is_made {D} {S} {E} shelf before c after (Err error) is = tt
