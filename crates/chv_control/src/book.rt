@@ -1,5 +1,5 @@
 // What an entry costs the control book.
-ghost use Rattle.std.specs.Prelude.{◌≡◌, ◌≤◌, ◌<◌, ◌^◌, IfOk};
+ghost use Rattle.std.specs.Prelude.{◌≡◌, ◌+◌, ◌≤◌, ◌<◌, ◌^◌, IfOk};
 ghost use Rattle.chv_defs.specs.BankState.{most_entries, most_payload};
 ghost use Rattle.chv_defs.specs.declared.control.ControlReply.TheVariants.{Added};
 ghost use Rattle.chv_defs.specs.ControlBook.{call_payload, entry_payload, full_at, payload, places, reply_payload};
@@ -16,12 +16,16 @@ const MOST_ENTRIES: u64 = 1_048_576;
 /// How many bytes of payload the control book has at most.
 const MOST_PAYLOAD: u64 = 16_777_216;
 
-/// The payload of an entry, in bytes.
-pub fn payload_of(alloc: Global, entry: &ControlEntry) -> Result<u64, AllocError>
-    ensures { IfOk result (λ bytes. bytes ≡ entry_payload entry.now) }
+/// The payload of the entry of a call that is answered so, in bytes.
+pub fn payload_of(
+    alloc: Global,
+    call: &ControlCall,
+    reply: &ControlReply,
+) -> Result<u64, AllocError>
+    ensures { IfOk result (λ bytes. bytes ≡ call_payload call.now + reply_payload reply.now) }
 {
-    let call = call_payload(alloc, &entry.call)?;
-    let reply = reply_payload(alloc, &entry.reply)?;
+    let call = call_payload(alloc, call)?;
+    let reply = reply_payload(alloc, reply)?;
     Ok(call as u64 + reply as u64)
 }
 

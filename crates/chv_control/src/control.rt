@@ -154,6 +154,8 @@ impl<D: Disk> Control<D> {
             &made.entry,
             made.added,
         ) {
+            // (said here, so that the proof has one call in place of a case for each kind of call and reply)
+            drop(made);
             return Ok(Err(Inner::Full(full)));
         }
         let made = leave(self.alloc, &mut self.machine, &self.shelf, made)?;

@@ -1,5 +1,5 @@
 // An entry is made, and what its call leaves.
-ghost use Rattle.std.specs.Prelude.{◌≡◌, true, IfOk, OnOk, OnErr};
+ghost use Rattle.std.specs.Prelude.{◌≡◌, true, Ok, IsErr, IfOk, OnOk, OnErr};
 ghost use Rattle.chv_defs.specs.Desks.{can_have, is_session_call};
 ghost use Rattle.chv_defs.specs.Machine.{IsWellFormed};
 ghost use Rattle.chv_defs.specs.ApiStep.{after, reply_to};
@@ -20,8 +20,31 @@ pub struct Made {
     pub added: u64,
 }
 
+/// A value, where there is one, beside one that is kept.
+fn beside<T, K: Drop>(value: Result<T, AllocError>, kept: K) -> Result<(T, K), AllocError>
+    ensures ok { IfOk result (λ both. (value ≡ Ok both.0) × (both.1 ≡ kept)) }
+    ensures err { OnErr result (IsErr value) }
+{
+    match value {
+        Ok(value) => Ok((value, kept)),
+        Err(error) => Err(error),
+    }
+}
+
+/// The entry of a call that is answered so.
+fn entry(caller: u32, call: &ControlCall, reply: &ControlReply) -> Result<ControlEntry, AllocError>
+    ensures { IfOk result (λ entry. entry ≡ record { caller = caller; call = call.now; reply = reply.now }) }
+{
+    let call = copy_of(call)?;
+    let (reply, call) = beside(copy_of(reply), call)?;
+    Ok(ControlEntry {
+        caller,
+        call,
+        reply,
+    })
+}
+
 /// The entry of a call, answered by its rules.
-#[tactic(auto, using(crate::proofs::Fits::fits))]
 pub fn make(
     alloc: Global,
     machine: &Machine,
@@ -37,12 +60,8 @@ pub fn make(
     ensures fits { is_session_call call.now ≡ true → IfOk result (λ made. can_have call.now made.reply ≡ true) }
 {
     let reply = api_reply(alloc, machine, shelf, call)?;
-    let entry = ControlEntry {
-        caller,
-        call: copy_of(call)?,
-        reply: copy_of(&reply)?,
-    };
-    let added = payload_of(alloc, &entry)?;
+    let (added, reply) = beside(payload_of(alloc, call, &reply), reply)?;
+    let (entry, reply) = beside(entry(caller, call, &reply), reply)?;
     Ok(Made {
         entry,
         reply,
@@ -62,16 +81,27 @@ pub fn leave(
     ensures ok { OnOk result (machine.new ≡ after machine.old made.entry.caller made.entry.call made.entry.reply) }
     ensures err { OnErr result (machine.new ≡ machine.old) }
 {
-    let entry = &made.entry;
-    match api_leave(
+    let left = leave_entry(alloc, machine, shelf, &made.entry);
+    let ((), made) = beside(left, made)?;
+    Ok(made)
+}
+
+fn leave_entry(
+    alloc: Global,
+    machine: &mut Machine,
+    shelf: &Row<OnShelf>,
+    entry: &ControlEntry,
+) -> Result<(), AllocError>
+    requires { entry.now.reply ≡ reply_to shelf.now machine.old entry.now.call }
+    ensures ok { OnOk result (machine.new ≡ after machine.old entry.now.caller entry.now.call entry.now.reply) }
+    ensures err { OnErr result (machine.new ≡ machine.old) }
+{
+    api_leave(
         alloc,
         machine,
         entry.caller,
         shelf,
         &entry.call,
         &entry.reply,
-    ) {
-        Ok(()) => Ok(made),
-        Err(error) => Err(error),
-    }
+    )
 }

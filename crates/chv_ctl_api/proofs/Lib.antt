@@ -2,3 +2,4 @@ pub mod Verdicts
 pub mod Kept
 pub mod Ids
 pub mod WithNumber
+pub mod Fits

@@ -1,5 +1,5 @@
 -- What a session makes at its desk.
-use Rattle.std.proofs.Common.{◌≡◌, ◌⊎◌, ℕ, Bool, true, false, List, [], ◌∷◌, ◌++◌, Option, Some, None, Result, Ok, Err, refl, sym, ap, subst, ◌∙◌, inl, inr, append_assoc, if◌then◌else◌}
+use Rattle.std.proofs.Common.{◌≡◌, ◌⊎◌, ℕ, Bool, true, false, List, [], ◌∷◌, ◌++◌, Option, Some, None, Result, Ok, Err, IfOk, OnErr, refl, sym, ap, subst, ◌∙◌, inl, inr, append_assoc, if◌then◌else◌}
 use Rattle.chv_defs.specs.declared.rule.Rule.{Rule}
 use Rattle.chv_defs.specs.declared.rule.Rule.TheVariants.{NoRoute}
 use Rattle.chv_defs.specs.declared.request.Request.{Request}
@@ -12,8 +12,11 @@ use Rattle.chv_defs.specs.Desks.{Answer, is_held, is_holding, can_have, is_sessi
 use Rattle.chv_defs.specs.JsonBodies.{◌>>=◌}
 use Rattle.chv_defs.specs.Routes.{call_of_request, call_named, get_call, put_call, reply_to_call, route_name}
 use Rattle.chv_defs.specs.SessionBytes.{Makes, Holds, AnsweredBy}
-use Rattle.chv_session.specs.declared.respond.Then.{Then}
+use Rattle.chv_session.specs.declared.respond.Then.TheVariants as then_is
+use Rattle.chv_session.specs.declared.respond.Response.{Response}
+use Rattle.chv_session.specs.declared.respond.Made.{Made}
 use Rattle.chv_session.specs.Response.{HasMadeAlso, Serves, BreaksIn, is_bye, then_after}
+use Rattle.chv_session.specs.Making.{Settles, IsAnswer, StopsAt, MakesCall, ServesCall, last_call}
 
 -- ---- what is held
 
@@ -30,13 +33,15 @@ settled_is : (r : ControlReply) → can_have call.Settle r ≡ true → is_holdi
 settled_is reply.Holding e = absurd (cc e)
 settled_is r e = refl
 
-pub may_settle : (caller caller_after : ℕ) (before after : List Answer) (c : ControlCall) (r : ControlReply) → IsSession caller
-    → caller_after ≡ caller → after ≡ before ++ record { call = c; reply = r } ∷ [] → is_holding r ≡ true
-    → IsSession caller_after × (is_held after ≡ true)
-may_settle caller caller_after before after c r session same made holding = (
-  subst IsSession (sym same) session,
-  ap is_held made ∙ held_behind before (record { call = c; reply = r }) ∙ holding,
-)
+pub held_after : (before after : List Answer) (a : Answer) → after ≡ before ++ a ∷ [] → is_held after ≡ is_holding a.reply
+held_after before after a made = ap is_held made ∙ held_behind before a
+
+-- what follows from an answer Holding
+pub settles_held : {S E : Type 0} (r : ControlReply) (result : Result (Result Made S) E) (before after : List Answer)
+    (refused refused_after : Option ControlCall) → is_holding r ≡ true → Settles reply.Holding result before after refused refused_after
+    → Settles r result before after refused refused_after
+settles_held r result before after refused refused_after holding settles =
+    subst (λ x. Settles x result before after refused refused_after) (sym (holding_is r holding)) settles
 
 -- ---- a call and its Settle
 
@@ -45,34 +50,32 @@ two_answers : (before middle after : List Answer) (a b : Answer) → middle ≡ 
 two_answers before middle after a b first second =
     second ∙ ap (λ l. l ++ b ∷ []) first ∙ append_assoc before (a ∷ []) (b ∷ [])
 
-pub makes_settle : (before middle after : List Answer) (c : ControlCall) (r last : ControlReply) → is_holding r ≡ true
-    → middle ≡ before ++ record { call = c; reply = r } ∷ [] → after ≡ middle ++ record { call = call.Settle; reply = last } ∷ []
-    → can_have call.Settle last ≡ true
-    → HasMadeAlso before after (λ made. Makes c made (record { call = call.Settle; reply = last }))
-makes_settle before middle after c r last holding first second fits = (
-  record { call = c; reply = reply.Holding } ∷ record { call = call.Settle; reply = last } ∷ [],
-  two_answers before middle after (record { call = c; reply = reply.Holding }) (record { call = call.Settle; reply = last })
-      (first ∙ ap (λ x. before ++ record { call = c; reply = x } ∷ []) (holding_is r holding)) second,
-  (settled_is last fits, inr (refl, refl)),
-)
+-- the answer of a call, where it is Holding
+held_answer : (before middle : List Answer) (c : ControlCall) (r : ControlReply) → is_holding r ≡ true
+    → middle ≡ before ++ record { call = c; reply = r } ∷ [] → middle ≡ before ++ record { call = c; reply = reply.Holding } ∷ []
+held_answer before middle c r holding first = first ∙ ap (λ x. before ++ record { call = c; reply = x } ∷ []) (holding_is r holding)
 
-pub stops_holding : (before middle after : List Answer) (c : ControlCall) (r : ControlReply) (refused : Option ControlCall) → is_holding r ≡ true
-    → middle ≡ before ++ record { call = c; reply = r } ∷ [] → after ≡ middle → refused ≡ Some call.Settle
-    → HasMadeAlso before after (λ made. ((made ≡ []) × (refused ≡ Some c)) ⊎ (Holds c made × (refused ≡ Some call.Settle)))
-stops_holding before middle after c r refused holding first second is = (
-  record { call = c; reply = reply.Holding } ∷ [],
-  second ∙ first ∙ ap (λ x. before ++ record { call = c; reply = x } ∷ []) (holding_is r holding),
-  inr (refl, is),
+-- a call that was answered is settled
+pub makes_settled : {S E : Type 0} (before middle after : List Answer) (c : ControlCall) (r : ControlReply)
+    (result : Result (Result Made S) E) (refused between refused_after : Option ControlCall)
+    → middle ≡ before ++ record { call = c; reply = r } ∷ [] → between ≡ refused
+    → Settles r result middle after between refused_after → MakesCall c result before after refused refused_after
+makes_settled before middle after c r (Ok (Ok made)) refused between refused_after first same (not_held, goes, inl (own, flag, is, none)) = (
+  (record { call = c; reply = r } ∷ [], none ∙ first, (not_held, inl (ap (last_call c) flag, ap (λ x. record { call = c; reply = x } ∷ []) (sym is) ∙ ap (λ b. record { call = last_call c b; reply = made.reply } ∷ []) (sym flag)))),
+  goes ∙ same,
 )
-
-pub made_holding : (before middle after : List Answer) (c : ControlCall) (r : ControlReply) → is_holding r ≡ true
-    → middle ≡ before ++ record { call = c; reply = r } ∷ [] → after ≡ middle
-    → HasMadeAlso before after (λ made. (made ≡ []) ⊎ Holds c made)
-made_holding before middle after c r holding first second = (
-  record { call = c; reply = reply.Holding } ∷ [],
-  second ∙ first ∙ ap (λ x. before ++ record { call = c; reply = x } ∷ []) (holding_is r holding),
-  inr refl,
+makes_settled before middle after c r (Ok (Ok made)) refused between refused_after first same (not_held, goes, inr (holding, flag, second)) = (
+  (
+    record { call = c; reply = reply.Holding } ∷ record { call = call.Settle; reply = made.reply } ∷ [],
+    two_answers before middle after _ _ (held_answer before middle c r holding first) second,
+    (not_held, inr (ap (last_call c) flag, ap (λ b. record { call = c; reply = reply.Holding } ∷ record { call = last_call c b; reply = made.reply } ∷ []) (sym flag))),
+  ),
+  goes ∙ same,
 )
+makes_settled before middle after c r (Ok (Err stopped)) refused between refused_after first same (holding, none, is) =
+    (record { call = c; reply = reply.Holding } ∷ [], none ∙ held_answer before middle c r holding first, inr (refl, is))
+makes_settled before middle after c r (Err error) refused between refused_after first same (holding, none, goes) =
+    ((record { call = c; reply = reply.Holding } ∷ [], none ∙ held_answer before middle c r holding first, inr refl), goes ∙ same)
 
 -- ---- the call of a request
 
@@ -122,36 +125,40 @@ request_asks_no_bye request c is = (subst IsAsked is (named_asked request (route
 
 -- ---- a request that is served
 
-pub serves_ok : (before after : List Answer) (request : Request) (c : ControlCall) (found : Result ControlCall Rule)
-    (last : ControlCall × ControlReply) (bytes : List ℕ) (response : Option (List ℕ)) (after_it : Then) (refused refused_after : Option ControlCall)
-    → found ≡ call_of_request request → found ≡ Ok c
-    → HasMadeAlso before after (λ made. Makes c made (record { call = last.0; reply = last.1 }))
-    → bytes ≡ reply_to_call last.0 last.1 request.last → response ≡ Some bytes → after_it ≡ then_after request.last
-    → refused_after ≡ refused
-    → HasMadeAlso before after (λ made. Serves request response after_it made refused refused_after)
-serves_ok before after request c found last bytes response after_it refused refused_after is ok makes bytes_are reply_is then_is goes = (
-  makes.0,
-  makes.1,
-  inl (
-    bytes,
-    reply_is,
-    then_is,
-    subst (λ r. AnsweredBy r request.last makes.0 bytes) (sym ok ∙ is) (record { call = last.0; reply = last.1 }, makes.2, bytes_are),
-    goes,
-  ),
-)
+-- a call that was made, and the reply to it
+pub serves_made : {E : Type 0} (before after : List Answer) (c : ControlCall) (made : Made) (last : Bool) (result : Result Response E)
+    (refused refused_after : Option ControlCall)
+    → HasMadeAlso before after (λ all. Makes c all (record { call = last_call c made.settled; reply = made.reply })) × (refused_after ≡ refused)
+    → IfOk result (λ response. IsAnswer response (reply_to_call (last_call c made.settled) made.reply last) last)
+    → ServesCall c last result before after refused refused_after
+serves_made before after c made last (Ok response) refused refused_after (makes, goes) (reply_is, then_is) =
+    (makes.0, makes.1, inl (_, reply_is, then_is, (record { call = last_call c made.settled; reply = made.reply }, makes.2, refl), goes))
+serves_made before after c made last (Err error) refused refused_after (makes, goes) is =
+    ((makes.0, makes.1, inr (inr (_, (record { call = last_call c made.settled; reply = made.reply }, makes.2, refl)))), goes)
 
--- a request whose calls were made, and whose reply was not
-pub breaks_ok : (before after : List Answer) (request : Request) (c : ControlCall) (found : Result ControlCall Rule)
-    (last : ControlCall × ControlReply) → found ≡ call_of_request request → found ≡ Ok c
-    → HasMadeAlso before after (λ made. Makes c made (record { call = last.0; reply = last.1 }))
-    → HasMadeAlso before after (λ made. BreaksIn request made)
-breaks_ok before after request c found last is ok makes =
-    let bytes = reply_to_call last.0 last.1 request.last in (
-      makes.0,
-      makes.1,
-      inr (inr (
-        bytes,
-        subst (λ r. AnsweredBy r request.last makes.0 bytes) (sym ok ∙ is) (record { call = last.0; reply = last.1 }, makes.2, refl),
-      )),
-    )
+pub serves_ok : {E : Type 0} (before after : List Answer) (request : Request) (c : ControlCall) (found : Result ControlCall Rule)
+    (result : Result Response E) (refused refused_after : Option ControlCall)
+    → found ≡ call_of_request request → found ≡ Ok c → ServesCall c request.last result before after refused refused_after
+    → IfOk result (λ response. HasMadeAlso before after (λ made. Serves request response.reply response.then made refused refused_after))
+serves_ok before after request c found (Ok response) refused refused_after is ok (made, all, inl (bytes, reply_is, then_is, by, goes)) =
+    (made, all, inl (bytes, reply_is, then_is, subst (λ r. AnsweredBy r request.last made bytes) (sym ok ∙ is) by, goes))
+serves_ok before after request c found (Ok response) refused refused_after is ok (made, all, inr (reply_is, then_is, stops)) =
+    (made, all, inr (reply_is, then_is, (c, sym is ∙ ok, stops)))
+serves_ok before after request c found (Err error) refused refused_after is ok serves = tt
+
+pub serves_err : {E : Type 0} (before after : List Answer) (request : Request) (c : ControlCall) (found : Result ControlCall Rule)
+    (result : Result Response E) (refused refused_after : Option ControlCall)
+    → found ≡ call_of_request request → found ≡ Ok c → ServesCall c request.last result before after refused refused_after
+    → OnErr result (HasMadeAlso before after (λ made. BreaksIn request made))
+serves_err before after request c found (Ok response) refused refused_after is ok serves = tt
+serves_err before after request c found (Err error) refused refused_after is ok ((made, all, inl none), goes) = (made, all, inl none)
+serves_err before after request c found (Err error) refused refused_after is ok ((made, all, inr (inl holds)), goes) =
+    (made, all, inr (inl (c, sym is ∙ ok, holds)))
+serves_err before after request c found (Err error) refused refused_after is ok ((made, all, inr (inr (bytes, by))), goes) =
+    (made, all, inr (inr (bytes, subst (λ r. AnsweredBy r request.last made bytes) (sym ok ∙ is) by)))
+
+pub serves_goes_on : {E : Type 0} (before after : List Answer) (c : ControlCall) (last : Bool) (result : Result Response E)
+    (refused refused_after : Option ControlCall) → ServesCall c last result before after refused refused_after
+    → OnErr result (refused_after ≡ refused)
+serves_goes_on before after c last (Ok response) refused refused_after serves = tt
+serves_goes_on before after c last (Err error) refused refused_after serves = serves.1

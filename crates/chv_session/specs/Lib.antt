@@ -3,6 +3,7 @@ pub mod Moment
 pub mod Taking
 pub mod Found
 pub mod Response
+pub mod Making
 pub mod Wire
 pub mod Step
 pub mod Laws

@@ -1,10 +1,12 @@
 // Makes the control calls of what was found, and the reply to it.
-ghost use Rattle.std.specs.Prelude.{◌≡◌, ◌++◌, true, Some, None, IfOk, OnErr, ◌⊎◌, []};
+ghost use Rattle.std.specs.Prelude.{◌≡◌, true, Some, None, IfOk, OnErr};
 ghost use Rattle.chv_defs.specs.Machine.{IsSession};
 ghost use Rattle.chv_defs.specs.declared.control.ControlCall.TheVariants.{Settle};
-ghost use Rattle.chv_defs.specs.Desks.{IsOnlyAsked, is_session_call, is_holding};
-ghost use Rattle.chv_defs.specs.SessionBytes.{Makes, Holds};
+ghost use Rattle.chv_defs.specs.declared.control.ControlReply.TheVariants.{Holding};
+ghost use Rattle.chv_defs.specs.Desks.{IsOnlyAsked, is_session_call, is_held, is_holding};
+ghost use Rattle.chv_defs.specs.Routes.{reply_to_call};
 ghost use Rattle.chv_session.specs.Response.{Serves, Responds, BreaksIn, BreaksOn, then_after, HasMadeAlso};
+ghost use Rattle.chv_session.specs.Making.{Settles, IsAnswer, MakesCall, ServesCall, last_call};
 
 use crate::fill::Found;
 use chv_api::{calls_of, refusal_of, reply_of};
@@ -60,35 +62,103 @@ fn holds(reply: &ControlReply) -> bool
     matches!(reply, ControlReply::Holding)
 }
 
-/// Makes a call, and where it is answered Holding its Settle. Answers the last of the two with its answer.
+/// The last answer to a call: its own, or that of its Settle.
+#[derive(Drop)]
+pub(crate) struct Made {
+    pub reply: ControlReply,
+    pub settled: bool,
+}
+
+/// Makes the Settle of a call that was answered Holding.
+fn settle<R: Copy, T: Desk<R>>(rt: R, desk: &mut T) -> Result<Result<Made, Stopped>, AllocError>
+    requires session { IsSession (T.caller desk.old) }
+    requires held { is_held (T.answers desk.old) ≡ true }
+    ensures caller { T.caller desk.new ≡ T.caller desk.old }
+    ensures settles { Settles Holding result (T.answers desk.old) (T.answers desk.new) (T.refused desk.old) (T.refused desk.new) }
+    ensures asked { T.asks desk.old Settle desk.new }
+{
+    match desk.ask(rt, &ControlCall::Settle)? {
+        Ok(reply) => Ok(Ok(Made {
+            reply,
+            settled: true,
+        })),
+        Err(stopped) => Ok(Err(stopped)),
+    }
+}
+
+/// Settles a call that was answered so, where that is Holding.
+fn settle_held<R: Copy, T: Desk<R>>(
+    rt: R,
+    desk: &mut T,
+    reply: ControlReply,
+) -> Result<Result<Made, Stopped>, AllocError>
+    requires session { IsSession (T.caller desk.old) }
+    requires held { is_held (T.answers desk.old) ≡ is_holding reply }
+    ensures caller { T.caller desk.new ≡ T.caller desk.old }
+    ensures settles { Settles reply result (T.answers desk.old) (T.answers desk.new) (T.refused desk.old) (T.refused desk.new) }
+    ensures asked { IsOnlyAsked T.asks desk.old desk.new }
+{
+    if holds(&reply) {
+        return settle(rt, desk);
+    }
+    Ok(Ok(Made {
+        reply,
+        settled: false,
+    }))
+}
+
+/// Makes a call, and where it is answered Holding its Settle.
 fn make<R: Copy, T: Desk<R>>(
     rt: R,
     desk: &mut T,
-    call: ControlCall,
-) -> Result<Result<(ControlCall, ControlReply), Stopped>, AllocError>
+    call: &ControlCall,
+) -> Result<Result<Made, Stopped>, AllocError>
     requires session { IsSession (T.caller desk.old) }
-    requires api { is_session_call call ≡ true }
+    requires api { is_session_call call.now ≡ true }
     ensures caller { T.caller desk.new ≡ T.caller desk.old }
-    ensures made { IfOk result (λ answer. IfOk answer (λ last. HasMadeAlso (T.answers desk.old) (T.answers desk.new)
-        (λ made. Makes call made (record { call = last.0; reply = last.1 })))) }
-    ensures stopped { IfOk result (λ answer. OnErr answer (HasMadeAlso (T.answers desk.old) (T.answers desk.new)
-        (λ made. ((made ≡ []) × (T.refused desk.new ≡ Some call)) ⊎ (Holds call made × (T.refused desk.new ≡ Some Settle))))) }
-    ensures goes_on { IfOk result (λ answer. IfOk answer (λ _. T.refused desk.new ≡ T.refused desk.old)) }
-    ensures err_goes_on { OnErr result (T.refused desk.new ≡ T.refused desk.old) }
+    ensures makes { MakesCall call.now result (T.answers desk.old) (T.answers desk.new) (T.refused desk.old) (T.refused desk.new) }
     ensures asked { IsOnlyAsked T.asks desk.old desk.new }
-    ensures err { OnErr result (HasMadeAlso (T.answers desk.old) (T.answers desk.new)
-        (λ made. (made ≡ []) ⊎ Holds call made)) }
 {
-    let reply = match desk.ask(rt, &call)? {
-        Ok(reply) => reply,
-        Err(stopped) => return Ok(Err(stopped)),
-    };
-    if !holds(&reply) {
-        return Ok(Ok((call, reply)));
-    }
-    match desk.ask(rt, &ControlCall::Settle)? {
-        Ok(reply) => Ok(Ok((ControlCall::Settle, reply))),
+    match desk.ask(rt, call)? {
+        Ok(reply) => settle_held(rt, desk, reply),
         Err(stopped) => Ok(Err(stopped)),
+    }
+}
+
+/// Answers a request whose call was answered so.
+fn answer(
+    alloc: Global,
+    call: &ControlCall,
+    made: &Made,
+    last: bool,
+) -> Result<Response, AllocError>
+    ensures { IfOk result (λ response. IsAnswer response (reply_to_call (last_call call.now made.now.settled) made.now.reply last) last) }
+{
+    let bytes = if made.settled {
+        reply_of(alloc, &made.reply, &ControlCall::Settle, last)?
+    } else {
+        reply_of(alloc, &made.reply, call, last)?
+    };
+    Ok(answered(bytes, last))
+}
+
+/// Makes a call of a request, and the reply to it.
+fn serve_call<R: Copy, T: Desk<R>>(
+    alloc: Global,
+    rt: R,
+    desk: &mut T,
+    call: &ControlCall,
+    last: bool,
+) -> Result<Response, AllocError>
+    requires session { IsSession (T.caller desk.old) }
+    requires api { is_session_call call.now ≡ true }
+    ensures caller { T.caller desk.new ≡ T.caller desk.old }
+    ensures served { ServesCall call.now last result (T.answers desk.old) (T.answers desk.new) (T.refused desk.old) (T.refused desk.new) }
+    ensures asked { IsOnlyAsked T.asks desk.old desk.new }
+{
+    match make(rt, desk, call)? {
+        Ok(made) => answer(alloc, call, &made, last),
+        Err(Stopped) => Ok(silent(Then::Stop)),
     }
 }
 
@@ -107,18 +177,12 @@ fn serve<R: Copy, T: Desk<R>>(
     ensures err_goes_on { OnErr result (T.refused desk.new ≡ T.refused desk.old) }
     ensures asked { IsOnlyAsked T.asks desk.old desk.new }
 {
-    let call = match calls_of(alloc, request)? {
-        Ok(call) => call,
+    match calls_of(alloc, request)? {
+        Ok(call) => serve_call(alloc, rt, desk, &call, request.last),
         Err(rule) => {
-            return Ok(answered(refusal_of(alloc, rule, request.last)?, request.last));
-        }
-    };
-    match make(rt, desk, call)? {
-        Ok((call, reply)) => {
-            let bytes = reply_of(alloc, &reply, &call, request.last)?;
+            let bytes = refusal_of(alloc, rule, request.last)?;
             Ok(answered(bytes, request.last))
         }
-        Err(Stopped) => Ok(silent(Then::Stop)),
     }
 }
 

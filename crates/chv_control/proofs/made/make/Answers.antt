@@ -1,0 +1,9 @@
+use Rattle.std.proofs.Common.{◌≡◌, true, sym, subst, ◌∙◌}
+use Rattle.chv_defs.specs.Desks.{can_have}
+use Rattle.chv_control.proofs.Fits.{fits}
+use Rattle.chv_control.proofs.made.make.Goals as goal
+
+pub returns-clause-fits : goal.returns-clause-fits
+returns-clause-fits c =
+    let reply = c.in_ok-entry.ensures.ok.1 ∙ c.in_ok-added.ensures.ok.1 ∙ c.in_ok-reply.ensures.reply in
+    λ s. subst (λ r. can_have c.args.call.now r ≡ true) (sym reply) (fits _ _ _ c.requires.formed s)
