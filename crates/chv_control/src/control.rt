@@ -12,6 +12,7 @@ ghost use Rattle.chv_defs.specs.ControlStep.{MayCall};
 ghost use Rattle.chv_defs.specs.LegalControl.{IsLegal, answers_by};
 
 use crate::book::full_at;
+use crate::entries::{make_room, put_entry};
 use crate::inner::Inner;
 use crate::made::{leave, make};
 use crate::shelf::shelf_of;
@@ -126,7 +127,7 @@ impl<D: Disk> Control<D> {
             call: ControlCall::Stop,
             reply: ControlReply::Done,
         };
-        self.history.push(entry).unwrap();
+        put_entry(&mut self.history, entry);
         ControlReply::Done
     }
 
@@ -145,7 +146,7 @@ impl<D: Disk> Control<D> {
         ensures refused { IfOk result (λ answer. OnErr answer (self.new ≡ self.old)) }
         ensures err { OnErr result (self.new ≡ self.old) }
     {
-        self.history.reserve(2)?;
+        make_room(&mut self.history)?;
         let made = make(self.alloc, &self.machine, &self.shelf, caller, call)?;
         if let Some(full) = full_at(
             &self.machine,
@@ -160,7 +161,7 @@ impl<D: Disk> Control<D> {
         }
         let made = leave(self.alloc, &mut self.machine, &self.shelf, made)?;
         self.bytes += made.added;
-        self.history.push(made.entry).unwrap();
+        put_entry(&mut self.history, made.entry);
         Ok(Ok(made.reply))
     }
 

@@ -3,6 +3,7 @@
 
 mod book;
 mod control;
+mod entries;
 mod inner;
 mod laws;
 mod made;

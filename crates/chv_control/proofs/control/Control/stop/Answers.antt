@@ -14,7 +14,7 @@ invariant_of-self g c =
     let m : Machine = c.self.inside.machine in
     let history = c.self.inside.history.items in
     let entry : ControlEntry = record { caller = c.args.caller; call = call.Stop; reply = reply.Done } in
-    let grown : c.push.new.self.items ≡ history ++ entry ∷ [] = grind (arith, common_steps) in
+    let grown : c.put_entry.new.history.items ≡ history ++ entry ∷ [] = grind (arith, common_steps) in
     let going : m.stopped ≡ false = cc in (
       c.self.invariant.0,
       c.self.invariant.1 ∙ sym (payload-stop c.args.caller history) ∙ ap payload (sym grown),
