@@ -1,6 +1,6 @@
 -- What an answer of the rules says of them.
 use Rattle.std.proofs.Common.{◌≡◌, Bool, true, false, List, [], ◌∷◌, ◌++◌, Option, None, Some, Result, Ok, Err, if◌then◌else◌, refl, sym, subst, ap}
-use Rattle.std.specs.Prelude.{is_some, OnOk}
+use Rattle.std.specs.Prelude.{is_some, MatchResult, OnOk}
 use Rattle.chv_defs.specs.declared.machine.Machine.{Machine}
 use Rattle.chv_defs.specs.declared.config.Checked.{Checked}
 use Rattle.chv_defs.specs.declared.config.VmConfig.{VmConfig}
@@ -9,6 +9,7 @@ use Rattle.chv_defs.specs.declared.scene.OnShelf.{OnShelf}
 use Rattle.chv_defs.specs.declared.rule.Rule.{Rule}
 use Rattle.chv_defs.specs.declared.rule.Rule.TheVariants.{SlotsFull}
 use Rattle.chv_defs.specs.declared.control.ControlCall.TheVariants as call
+use Rattle.chv_defs.specs.declared.control.ControlReply.{ControlReply}
 use Rattle.chv_defs.specs.declared.control.ControlReply.TheVariants as reply
 use Rattle.chv_defs.specs.ConfigRules.{first_broken, further_disk_rules, unless_refused, verdict}
 use Rattle.chv_defs.specs.ApiStep.{has_full_slots, names_of, refusal_of, refused_or, reply_to}
@@ -73,6 +74,17 @@ reply_to-add shelf m now disk None there e =
 reply_to-add shelf m now disk (Some rule) there e =
     let P : Option Checked → Type 0 = λ c. reply_to shelf (record m { config = c }) (call.AddDisk disk) ≡ reply.Ruled rule in
     subst P (sym there) (ap (λ f. refused_or f reply.Done) (first_broken-found (further_disk_rules (names_of shelf) now disk) ((has_full_slots now, SlotsFull) ∷ []) rule e))
+
+-- the answer to a Create, by what the check came to
+pub answer-checked : {T : Type 0} (found : Option Rule) (value : T) (checked : Result T Rule) (answer : ControlReply) → checked ≡ unless_refused found value → MatchResult checked (λ _. answer ≡ reply.Done) (λ rule. answer ≡ reply.Ruled rule) → answer ≡ refused_or found reply.Done
+answer-checked None value checked answer is met = subst (λ c. MatchResult c (λ _. answer ≡ reply.Done) (λ rule. answer ≡ reply.Ruled rule)) is met
+answer-checked (Some rule) value checked answer is met = subst (λ c. MatchResult c (λ _. answer ≡ reply.Done) (λ rule. answer ≡ reply.Ruled rule)) is met
+
+-- the answer to an AddDisk, by what the check and the slots came to
+pub answer-named : {T : Type 0} (found : Option Rule) (slots : Bool) (value : T) (named : Result T Rule) (full : Bool) (answer : ControlReply) → named ≡ unless_refused found value → full ≡ slots → MatchResult named (λ _. answer ≡ (if full then reply.Ruled SlotsFull else reply.Done)) (λ rule. answer ≡ reply.Ruled rule) → answer ≡ refused_or (slots_full found slots) reply.Done
+answer-named None true value named full answer is same met = cc (subst (λ c. MatchResult c (λ _. answer ≡ (if full then reply.Ruled SlotsFull else reply.Done)) (λ rule. answer ≡ reply.Ruled rule)) is met, same)
+answer-named None false value named full answer is same met = cc (subst (λ c. MatchResult c (λ _. answer ≡ (if full then reply.Ruled SlotsFull else reply.Done)) (λ rule. answer ≡ reply.Ruled rule)) is met, same)
+answer-named (Some rule) slots value named full answer is same met = subst (λ c. MatchResult c (λ _. answer ≡ (if full then reply.Ruled SlotsFull else reply.Done)) (λ rule. answer ≡ reply.Ruled rule)) is met
 
 -- there is no value where there is not some
 pub none-from_not_some : {T : Type 0} (c : Option T) → false ≡ is_some c → c ≡ None

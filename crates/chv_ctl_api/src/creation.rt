@@ -1,7 +1,8 @@
 // A machine is created, and deleted.
-ghost use Rattle.std.specs.Prelude.{◌≡◌, None, Some, IfOk, OnOk, OnErr};
+ghost use Rattle.std.specs.Prelude.{◌≡◌, None, Some, IfOk, OnOk, OnErr, MatchResult};
 ghost use Rattle.chv_defs.specs.declared.machine.Life.TheVariants as life;
 ghost use Rattle.chv_defs.specs.declared.control.ControlCall.TheVariants.{Create};
+ghost use Rattle.chv_defs.specs.declared.control.ControlReply.TheVariants.{Ruled, Done};
 ghost use Rattle.chv_defs.specs.ApiStep.{names_of, reply_to};
 ghost use Rattle.chv_defs.specs.ConfigRules.{checked_of, verdict};
 
@@ -23,9 +24,17 @@ pub fn answer_create(
         return Ok(ControlReply::Ruled(Rule::AlreadyCreated));
     }
     let names = names_of(alloc, shelf)?;
-    match check(alloc, config, &names)? {
-        Ok(_) => Ok(ControlReply::Done),
-        Err(rule) => Ok(ControlReply::Ruled(rule)),
+    let checked = check(alloc, config, &names)?;
+    Ok(answer_checked(checked))
+}
+
+// The answer to a call whose argument was checked so.
+fn answer_checked<T: Drop>(checked: Result<T, Rule>) -> ControlReply
+    ensures { MatchResult checked (λ _. result ≡ Done) (λ rule. result ≡ Ruled rule) }
+{
+    match checked {
+        Ok(_) => ControlReply::Done,
+        Err(rule) => ControlReply::Ruled(rule),
     }
 }
 

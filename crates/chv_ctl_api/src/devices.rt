@@ -1,7 +1,9 @@
 // Disks are added to a machine that is not booted, and devices are removed from it.
-ghost use Rattle.std.specs.Prelude.{◌≡◌, ◌≢◌, [], ◌∷◌, filter, length, not, None, Some, IfOk, OnOk, OnErr};
+ghost use Rattle.std.specs.Prelude.{◌≡◌, ◌≢◌, [], ◌∷◌, filter, if◌then◌else◌, length, not, None, Some, IfOk, OnOk, OnErr, MatchResult};
 ghost use Rattle.std.specs.Str.{bytes_eq};
 ghost use Rattle.chv_defs.specs.declared.control.ControlCall.TheVariants.{AddDisk, Remove};
+ghost use Rattle.chv_defs.specs.declared.control.ControlReply.TheVariants.{Ruled, Done};
+ghost use Rattle.chv_defs.specs.declared.rule.Rule.TheVariants.{SlotsFull};
 ghost use Rattle.chv_defs.specs.ApiStep.{has_full_slots, has_id, names_of, now_of, refusal_of, reply_to, with_new_disk, without_disk};
 ghost use Rattle.chv_defs.specs.ConfigRules.{given_ids, grows, has_text, memory_device_id, memory_device_ids, with_disk};
 
@@ -27,13 +29,19 @@ pub fn answer_add_disk(
         return Ok(ControlReply::Ruled(Rule::NotCreated));
     };
     let names = names_of(alloc, shelf)?;
-    if let Err(rule) = check_disk(alloc, checked, disk, &names)? {
-        return Ok(ControlReply::Ruled(rule));
+    let named = check_disk(alloc, checked, disk, &names)?;
+    Ok(answer_named(named, has_full_slots(checked)))
+}
+
+// The answer to an AddDisk whose disk was checked so.
+fn answer_named<T: Drop>(named: Result<T, Rule>, full: bool) -> ControlReply
+    ensures { MatchResult named (λ _. result ≡ (if full then Ruled SlotsFull else Done)) (λ rule. result ≡ Ruled rule) }
+{
+    match named {
+        Err(rule) => ControlReply::Ruled(rule),
+        Ok(_) if full => ControlReply::Ruled(Rule::SlotsFull),
+        Ok(_) => ControlReply::Done,
     }
-    if has_full_slots(checked) {
-        return Ok(ControlReply::Ruled(Rule::SlotsFull));
-    }
-    Ok(ControlReply::Done)
 }
 
 // Whether all slots would be used at boot.
@@ -158,7 +166,7 @@ fn has_id(disk: &DiskConfig, id: &Text) -> bool
     ensures { result ≡ has_id id.now disk.now }
 {
     match &disk.id {
-        Some(given) => given == id,
+        Some(own) => own == id,
         None => id.as_str().is_empty(),
     }
 }

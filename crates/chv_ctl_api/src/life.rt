@@ -13,10 +13,10 @@ use chv_defs::{ControlReply, Goal, Machine, Name, OnShelf, Row, Rule};
 pub fn refuse(machine: &Machine, rule: Rule) -> ControlReply
     ensures { result ≡ refused_by machine.now rule }
 {
-    if machine.config.is_none() {
-        return ControlReply::Ruled(Rule::NotCreated);
+    match &machine.config {
+        Some(_) => ControlReply::Ruled(rule),
+        None => ControlReply::Ruled(Rule::NotCreated),
     }
-    ControlReply::Ruled(rule)
 }
 
 /// The answer to a Begin. A machine that is not booted is deleted at once.

@@ -1,5 +1,6 @@
 -- What a session makes at its desk.
 use Rattle.std.proofs.Common.{◌≡◌, ◌⊎◌, ℕ, Bool, true, false, List, [], ◌∷◌, ◌++◌, Option, Some, None, Result, Ok, Err, IfOk, OnErr, refl, sym, ap, subst, ◌∙◌, inl, inr, append_assoc, if◌then◌else◌}
+use Rattle.std.specs.Prelude.{MatchResult}
 use Rattle.chv_defs.specs.declared.rule.Rule.{Rule}
 use Rattle.chv_defs.specs.declared.rule.Rule.TheVariants.{NoRoute}
 use Rattle.chv_defs.specs.declared.request.Request.{Request}
@@ -7,6 +8,8 @@ use Rattle.chv_defs.specs.declared.control.ControlCall.{ControlCall}
 use Rattle.chv_defs.specs.declared.control.ControlCall.TheVariants as call
 use Rattle.chv_defs.specs.declared.control.ControlReply.{ControlReply}
 use Rattle.chv_defs.specs.declared.control.ControlReply.TheVariants as reply
+use Rattle.chv_defs.specs.declared.session.SessionEnd.{SessionEnd}
+use Rattle.chv_defs.specs.declared.session.SessionEnd.TheVariants as end
 use Rattle.chv_defs.specs.Machine.{IsSession}
 use Rattle.chv_defs.specs.Desks.{Answer, is_held, is_holding, can_have, is_session_call}
 use Rattle.chv_defs.specs.JsonBodies.{◌>>=◌}
@@ -15,7 +18,7 @@ use Rattle.chv_defs.specs.SessionBytes.{Makes, Holds, AnsweredBy}
 use Rattle.chv_session.specs.declared.respond.Then.TheVariants as then_is
 use Rattle.chv_session.specs.declared.respond.Response.{Response}
 use Rattle.chv_session.specs.declared.respond.Made.{Made}
-use Rattle.chv_session.specs.Response.{HasMadeAlso, Serves, BreaksIn, is_bye, then_after}
+use Rattle.chv_session.specs.Response.{HasMadeAlso, Leaves, Serves, BreaksIn, is_bye, then_after}
 use Rattle.chv_session.specs.Making.{Settles, IsAnswer, StopsAt, MakesCall, ServesCall, last_call}
 
 -- ---- what is held
@@ -42,6 +45,17 @@ pub settles_held : {S E : Type 0} (r : ControlReply) (result : Result (Result Ma
     → Settles r result before after refused refused_after
 settles_held r result before after refused refused_after holding settles =
     subst (λ x. Settles x result before after refused refused_after) (sym (holding_is r holding)) settles
+
+-- ---- the Bye of an end
+
+-- the end, by what its Bye was answered
+pub leaves_by : {S : Type 0} (how came : SessionEnd) (answer : Result ControlReply S) (before after : List Answer)
+    (refused refused_after : Option ControlCall) → MatchResult answer (λ _. came ≡ how) (λ _. came ≡ end.Stopped)
+    → IfOk answer (λ r. (after ≡ before ++ record { call = call.Bye; reply = r } ∷ []) × (refused_after ≡ refused))
+    → OnErr answer ((after ≡ before) × (refused_after ≡ Some call.Bye)) → Leaves how came before after refused refused_after
+leaves_by how came (Ok r) before after refused refused_after is made halted =
+    inl (record { call = call.Bye; reply = r }, is, refl, made.0, made.1)
+leaves_by how came (Err stopped) before after refused refused_after is made halted = inr (is, halted.0, halted.1)
 
 -- ---- a call and its Settle
 

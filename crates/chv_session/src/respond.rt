@@ -1,4 +1,5 @@
-// Makes the control calls of what was found, and the reply to it.
+// Makes the control calls of what was found, and the reply to it. Calls and replies are given to `drop`, so that a proof has
+// one call in place of a case for each kind of call and reply.
 ghost use Rattle.std.specs.Prelude.{◌≡◌, true, Some, None, IfOk, OnErr};
 ghost use Rattle.chv_defs.specs.Machine.{IsSession};
 ghost use Rattle.chv_defs.specs.declared.control.ControlCall.TheVariants.{Settle};
@@ -99,6 +100,7 @@ fn settle_held<R: Copy, T: Desk<R>>(
     ensures asked { IsOnlyAsked T.asks desk.old desk.new }
 {
     if holds(&reply) {
+        drop(reply);
         return settle(rt, desk);
     }
     Ok(Ok(Made {
@@ -157,7 +159,11 @@ fn serve_call<R: Copy, T: Desk<R>>(
     ensures asked { IsOnlyAsked T.asks desk.old desk.new }
 {
     match make(rt, desk, call)? {
-        Ok(made) => answer(alloc, call, &made, last),
+        Ok(made) => {
+            let response = answer(alloc, call, &made, last);
+            drop(made);
+            response
+        }
         Err(Stopped) => Ok(silent(Then::Stop)),
     }
 }
@@ -178,7 +184,11 @@ fn serve<R: Copy, T: Desk<R>>(
     ensures asked { IsOnlyAsked T.asks desk.old desk.new }
 {
     match calls_of(alloc, request)? {
-        Ok(call) => serve_call(alloc, rt, desk, &call, request.last),
+        Ok(call) => {
+            let response = serve_call(alloc, rt, desk, &call, request.last);
+            drop(call);
+            response
+        }
         Err(rule) => {
             let bytes = refusal_of(alloc, rule, request.last)?;
             Ok(answered(bytes, request.last))
@@ -203,7 +213,11 @@ pub(crate) fn respond<R: Copy, T: Desk<R>>(
     ensures asked { IsOnlyAsked T.asks desk.old desk.new }
 {
     match found {
-        Found::Request(request) => serve(alloc, rt, desk, &request),
+        Found::Request(request) => {
+            let response = serve(alloc, rt, desk, &request);
+            drop(request);
+            response
+        }
         Found::Bad(rule) => Ok(Response {
             reply: Some(refusal_of(alloc, rule, true)?),
             then: Then::Leave(SessionEnd::Bad),

@@ -1,5 +1,5 @@
 // Puts a reply, and ends a session.
-ghost use Rattle.std.specs.Prelude.{◌≡◌, ◌≢◌, ◌≤◌, true, None, IfOk, OnErr};
+ghost use Rattle.std.specs.Prelude.{◌≡◌, ◌≢◌, ◌≤◌, true, None, IfOk, MatchResult, OnErr};
 ghost use Rattle.chv_defs.specs.Machine.{IsSession};
 ghost use Rattle.chv_defs.specs.Desks.{IsOnlyAsked};
 ghost use Rattle.chv_defs.specs.Links.{WriteLeaves};
@@ -65,9 +65,17 @@ pub(crate) fn leave<R: Copy, K: Link, T: Desk<R>>(
         (K.read_faults link.new) (K.write_faults link.old) (K.write_faults link.new) }
 {
     link.close();
-    match desk.ask(rt, &ControlCall::Bye)? {
-        Ok(_) => Ok(end),
-        Err(Stopped) => Ok(SessionEnd::Stopped),
+    let answer = desk.ask(rt, &ControlCall::Bye)?;
+    Ok(end_by(answer, end))
+}
+
+/// The end, by what its Bye was answered.
+fn end_by<T: Drop>(answer: Result<T, Stopped>, end: SessionEnd) -> SessionEnd
+    ensures { MatchResult answer (λ _. result ≡ end) (λ _. result ≡ SessionEnd.Stopped) }
+{
+    match answer {
+        Ok(_) => end,
+        Err(Stopped) => SessionEnd::Stopped,
     }
 }
 
