@@ -1,4 +1,5 @@
 -- What a run says that writes the line of the words, where they are none of the program's.
+use Rattle.std.specs.Prelude.{IsTrue}
 use Rattle.std.proofs.Common.{◌≡◌, ◌⊎◌, ℕ, Bool, true, false, List, Option, sym, ◌∙◌, ap, subst, ⊎_elim, inl, inr}
 use Rattle.chv_defs.specs.Outside.{Rose, Gains, GainsPart}
 use Rattle.chv_top.specs.Says.{Writes}
@@ -16,9 +17,13 @@ pub which : (w w' : Option (List ℕ)) (f f' : ℕ) (text : List ℕ) (result : 
 which w w' f f' text result writes = ⊎_elim (λ done. inl done.0) (λ failed. inr failed.0) writes
 
 pub no_other : (w w' : Option (List ℕ)) (f f' : ℕ) (text : List ℕ) (result s : Status)
-    → Writes w w' f f' text status.Usage result → result ≡ s → is_of_words s ≡ true
-no_other w w' f f' text result s writes is =
-    ⊎_elim (λ done. ap is_of_words (sym is ∙ done.0)) (λ failed. ap is_of_words (sym is ∙ failed.0)) writes
+    → Writes w w' f f' text status.Usage result → result ≡ s → is_of_words s ≡ false → ⊥
+no_other w w' f f' text result s writes is other =
+    ⊎_elim (λ done. cc (ap is_of_words (sym is ∙ done.0), other)) (λ failed. cc (ap is_of_words (sym is ∙ failed.0), other)) writes
+
+-- what is true is not false
+pub otherwise : (b : Bool) → IsTrue b → b ≡ false → ⊥
+otherwise b is other = cc (is, other)
 
 pub line_written : (w w' : Option (List ℕ)) (f f' : ℕ) (text line : List ℕ) (result : Status)
     → Writes w w' f f' text status.Usage result → text ≡ line → result ≡ status.Usage → Gains w w' line

@@ -1,5 +1,5 @@
 use Rattle.std.proofs.Common.{refl}
-use Rattle.chv_top.proofs.OtherWords.{which, no_other, line_written, part_written}
+use Rattle.chv_top.proofs.OtherWords.{otherwise, which, no_other, line_written, part_written}
 use Rattle.chv_top.proofs.top.run_program.Goals as goal
 
 -- ---- the words are the program's
@@ -45,26 +45,26 @@ returns-then-are_play-clause-complete g c are = c.play_program.ensures.complete
 -- ---- they are not: the line of the words is written, or a first part of it
 
 pub returns-else-are_play-clause-done : goal.returns-else-are_play-clause-done
-returns-else-are_play-clause-done g c is = absurd (cc (no_other _ _ _ _ _ _ _ c.write.ensures.wrote is))
+returns-else-are_play-clause-done g c is = absurd (no_other _ _ _ _ _ _ _ c.write.ensures.wrote is refl)
 
 pub returns-else-are_play-clause-scene : goal.returns-else-are_play-clause-scene
-returns-else-are_play-clause-scene g c line reason is = absurd (cc (no_other _ _ _ _ _ _ _ c.write.ensures.wrote is))
+returns-else-are_play-clause-scene g c line reason is = absurd (no_other _ _ _ _ _ _ _ c.write.ensures.wrote is refl)
 
 pub returns-else-are_play-clause-full : goal.returns-else-are_play-clause-full
-returns-else-are_play-clause-full g c book entries bytes is = absurd (cc (no_other _ _ _ _ _ _ _ c.write.ensures.wrote is))
+returns-else-are_play-clause-full g c book entries bytes is = absurd (no_other _ _ _ _ _ _ _ c.write.ensures.wrote is refl)
 
 pub returns-else-are_play-clause-too_long : goal.returns-else-are_play-clause-too_long
-returns-else-are_play-clause-too_long g c bytes is = absurd (cc (no_other _ _ _ _ _ _ _ c.write.ensures.wrote is))
+returns-else-are_play-clause-too_long g c bytes is = absurd (no_other _ _ _ _ _ _ _ c.write.ensures.wrote is refl)
 
 pub returns-else-are_play-clause-read_fault : goal.returns-else-are_play-clause-read_fault
-returns-else-are_play-clause-read_fault g c is = absurd (cc (no_other _ _ _ _ _ _ _ c.write.ensures.wrote is))
+returns-else-are_play-clause-read_fault g c is = absurd (no_other _ _ _ _ _ _ _ c.write.ensures.wrote is refl)
 
 pub returns-else-are_play-clause-memory : goal.returns-else-are_play-clause-memory
-returns-else-are_play-clause-memory g c is = absurd (cc (no_other _ _ _ _ _ _ _ c.write.ensures.wrote is))
+returns-else-are_play-clause-memory g c is = absurd (no_other _ _ _ _ _ _ _ c.write.ensures.wrote is refl)
 
 pub returns-else-are_play-clause-usage : goal.returns-else-are_play-clause-usage
 returns-else-are_play-clause-usage g c is =
-    (λ are. cc (c.are_play.ensures.1 are, c.if-are_play.false), line_written _ _ _ _ _ _ _ c.write.ensures.wrote c.usage.ensures is)
+    (λ are. otherwise _ (c.are_play.ensures.1 are) c.if-are_play.false, line_written _ _ _ _ _ _ _ c.write.ensures.wrote c.usage.ensures is)
 
 pub returns-else-are_play-clause-other_words : goal.returns-else-are_play-clause-other_words
 returns-else-are_play-clause-other_words g c other = (refl, which _ _ _ _ _ _ c.write.ensures.wrote)
@@ -76,7 +76,7 @@ pub returns-else-are_play-clause-part_of_line : goal.returns-else-are_play-claus
 returns-else-are_play-clause-part_of_line g c is other = (part_written _ _ _ _ _ _ _ c.write.ensures.wrote c.usage.ensures is).1
 
 pub returns-else-are_play-clause-part_of_owed : goal.returns-else-are_play-clause-part_of_owed
-returns-else-are_play-clause-part_of_owed g c is are = absurd (cc (c.are_play.ensures.1 are, c.if-are_play.false))
+returns-else-are_play-clause-part_of_owed g c is are = absurd (otherwise _ (c.are_play.ensures.1 are) c.if-are_play.false)
 
 pub returns-else-are_play-clause-complete : goal.returns-else-are_play-clause-complete
-returns-else-are_play-clause-complete g c are = absurd (cc (c.are_play.ensures.1 are, c.if-are_play.false))
+returns-else-are_play-clause-complete g c are = absurd (otherwise _ (c.are_play.ensures.1 are) c.if-are_play.false)
