@@ -1,15 +1,70 @@
-// Answers of several kinds of cases.
+// What answers show. Large values are dropped in generic functions, where it is one step for the check.
 use crate::escapes::shown;
-use chv_defs::{Rule, Text};
+use chv_defs::{Bytes, Rule, Text};
 use std::alloc::{AllocError, Global};
+use std::io;
 
-/// A rule that refuses what the case gives.
-pub fn ruled(alloc: Global, rule: Rule) -> Result<String, AllocError> {
-    let name = rule.name();
-    format!(in alloc; "rule {name}")
+/// A value that an answer shows.
+pub trait Shown {
+    /// The value as an answer shows it.
+    fn shown(&self, alloc: Global) -> Result<String, AllocError>;
 }
 
-/// A text that was answered.
-pub fn text(alloc: Global, text: &Text) -> Result<String, AllocError> {
-    shown(alloc, text.as_str().as_bytes())
+impl Shown for Text {
+    fn shown(&self, alloc: Global) -> Result<String, AllocError> {
+        shown(alloc, self.as_str().as_bytes())
+    }
+}
+
+impl Shown for Bytes {
+    fn shown(&self, alloc: Global) -> Result<String, AllocError> {
+        shown(alloc, self.as_slice())
+    }
+}
+
+impl Shown for Rule {
+    fn shown(&self, alloc: Global) -> Result<String, AllocError> {
+        let name = self.name();
+        format!(in alloc; "rule {name}")
+    }
+}
+
+/// A value that a call gives, as an answer shows it.
+pub fn written<T: Shown + Drop>(
+    alloc: Global,
+    value: Result<T, AllocError>,
+) -> Result<String, AllocError> {
+    value?.shown(alloc)
+}
+
+/// What a call gives of a case, or why it refuses the case.
+pub fn answer<T: Shown + Drop, E: Shown + Drop>(
+    alloc: Global,
+    given: Result<Result<T, E>, AllocError>,
+) -> Result<String, AllocError> {
+    match given? {
+        Ok(value) => value.shown(alloc),
+        Err(refused) => refused.shown(alloc),
+    }
+}
+
+/// What a call gives of a case that no rule refuses.
+pub fn allowed<T: Drop>(given: Result<Result<T, Rule>, AllocError>) -> io::Result<T> {
+    match given? {
+        Ok(value) => Ok(value),
+        Err(rule) => Err(io::Error::other(rule.name())),
+    }
+}
+
+/// A value that can only lack memory, as what a case gives.
+pub fn allocated<T: Drop>(value: Result<T, AllocError>) -> io::Result<T> {
+    Ok(value?)
+}
+
+/// A value, where there is one, beside one that is kept.
+pub fn beside<T: Drop, K: Drop>(value: io::Result<T>, kept: K) -> io::Result<(T, K)> {
+    match value {
+        Ok(value) => Ok((value, kept)),
+        Err(error) => Err(error),
+    }
 }

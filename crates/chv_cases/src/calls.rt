@@ -1,62 +1,65 @@
 // Requests and the control calls that they make (`chv_api`).
-use crate::answers::{ruled, text};
+use crate::answers::{Shown, allocated, allowed, answer, beside, written};
 use crate::escapes::bytes_of;
 use crate::json::{resized, zoned};
 use crate::words::cut;
 use chv_api::calls_of;
-use chv_defs::{Bytes, ControlCall, Goal, Name, Request, Rule, Text};
+use chv_defs::{Bytes, ControlCall, Goal, Request, Text};
 use chv_json::{config_text, disk_text};
 use std::alloc::{AllocError, Global};
 use std::io;
 
 /// `call METHOD TARGET BODY`: the control call that a request makes.
 pub fn call(alloc: Global, words: &str) -> io::Result<String> {
-    let call = call_of(alloc, words)?;
-    Ok(made_or_ruled(alloc, &call)?)
+    let request = request_of(alloc, words)?;
+    let answer = answer(alloc, calls_of(alloc, &request));
+    drop(request);
+    allocated(answer)
 }
 
-fn made_or_ruled(alloc: Global, call: &Result<ControlCall, Rule>) -> Result<String, AllocError> {
-    match call {
-        Ok(call) => shown(alloc, call),
-        Err(rule) => ruled(alloc, *rule),
-    }
+/// The control call of the request `METHOD TARGET BODY` that no rule refuses.
+pub fn call_of(alloc: Global, words: &str) -> io::Result<ControlCall> {
+    let request = request_of(alloc, words)?;
+    let call = allowed(calls_of(alloc, &request));
+    drop(request);
+    call
 }
 
-/// The control call of the request `METHOD TARGET BODY`, or the rule that refuses it.
-pub fn call_of(alloc: Global, words: &str) -> io::Result<Result<ControlCall, Rule>> {
+fn request_of(alloc: Global, words: &str) -> io::Result<Request> {
     let (method, behind) = cut(words, ' ');
     let (target, body) = cut(behind, ' ');
-    let body = Bytes::new(bytes_of(alloc, body)?);
-    Ok(call_of_request(alloc, method, target, body)?)
-}
-
-fn call_of_request(
-    alloc: Global,
-    method: &str,
-    target: &str,
-    body: Bytes,
-) -> Result<Result<ControlCall, Rule>, AllocError> {
-    let request = Request {
+    let body = bytes_of(alloc, body)?;
+    let (target, body) = beside(allocated(Text::of(alloc, target)), body)?;
+    Ok(Request {
         put: method == "PUT",
         get: method == "GET",
-        target: Text::of(alloc, target)?,
-        body,
+        target,
+        body: Bytes::new(body),
         last: false,
-    };
-    calls_of(alloc, &request)
+    })
 }
 
 // A control call: its word, and what it is given.
-fn shown(alloc: Global, call: &ControlCall) -> Result<String, AllocError> {
-    match call {
-        ControlCall::Create(config) => behind(alloc, "create ", &config_text(alloc, config)?),
-        ControlCall::Resize { vcpus, ram } => resized(alloc, *vcpus, *ram),
-        ControlCall::ResizeZone { zone, ram } => zoned(alloc, zone, *ram),
-        ControlCall::AddDisk(disk) => behind(alloc, "add ", &disk_text(alloc, disk)?),
-        ControlCall::Remove(id) => behind(alloc, "remove ", id),
-        ControlCall::Snapshot(name) => named(alloc, "snapshot ", name),
-        ControlCall::Restore(name) => named(alloc, "restore ", name),
-        _ => String::from_str(alloc, bare(call)),
+impl Shown for ControlCall {
+    fn shown(&self, alloc: Global) -> Result<String, AllocError> {
+        match self {
+            ControlCall::Create(config) => {
+                behind(alloc, "create", written(alloc, config_text(alloc, config)))
+            }
+            ControlCall::Resize { vcpus, ram } => resized(alloc, *vcpus, *ram),
+            ControlCall::ResizeZone { zone, ram } => zoned(alloc, zone, *ram),
+            ControlCall::AddDisk(disk) => {
+                behind(alloc, "add", written(alloc, disk_text(alloc, disk)))
+            }
+            ControlCall::Remove(id) => behind(alloc, "remove", id.shown(alloc)),
+            ControlCall::Snapshot(name) => {
+                behind(alloc, "snapshot", String::from_str(alloc, name.as_str()))
+            }
+            ControlCall::Restore(name) => {
+                behind(alloc, "restore", String::from_str(alloc, name.as_str()))
+            }
+            _ => String::from_str(alloc, bare(self)),
+        }
     }
 }
 
@@ -75,14 +78,12 @@ fn bare(call: &ControlCall) -> &'static str {
     }
 }
 
-fn behind(alloc: Global, word: &str, value: &Text) -> Result<String, AllocError> {
-    let mut shown = String::from_str(alloc, word)?;
-    shown.push_str(text(alloc, value)?.as_str())?;
-    Ok(shown)
-}
-
-fn named(alloc: Global, word: &str, name: &Name) -> Result<String, AllocError> {
-    let mut shown = String::from_str(alloc, word)?;
-    shown.push_str(name.as_str())?;
-    Ok(shown)
+// A word, and the value behind it.
+fn behind(
+    alloc: Global,
+    word: &str,
+    value: Result<String, AllocError>,
+) -> Result<String, AllocError> {
+    let value = value?;
+    format!(in alloc; "{word} {value}")
 }

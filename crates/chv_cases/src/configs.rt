@@ -1,10 +1,10 @@
 // Configurations that are checked (`chv_config`).
-use crate::answers::{ruled, text};
+use crate::answers::{Shown, allocated, allowed, answer, beside, written};
 use crate::json::{read_config, read_disk};
-use crate::words::cut;
+use crate::words::{cut, found};
 use chv_config::{check, check_disk};
-use chv_defs::{Checked, DiskConfig, Name, Row, Text, VmConfig, ZoneConfig};
-use chv_json::{config_text, disk_text};
+use chv_defs::{Checked, Name, Row, Text, ZoneConfig};
+use chv_json::config_text;
 use std::alloc::{AllocError, Global};
 use std::io;
 
@@ -12,19 +12,11 @@ use std::io;
 pub fn checked(alloc: Global, words: &str) -> io::Result<String> {
     let (names, body) = cut(words, ' ');
     let names = names_of(alloc, names)?;
-    let config = read_config(alloc, body)?;
-    Ok(kept_or_ruled(alloc, &config, &names)?)
-}
-
-fn kept_or_ruled(
-    alloc: Global,
-    config: &VmConfig,
-    names: &Row<Name>,
-) -> Result<String, AllocError> {
-    match check(alloc, config, names)? {
-        Ok(checked) => kept(alloc, &checked),
-        Err(rule) => ruled(alloc, rule),
-    }
+    let (config, names) = beside(read_config(alloc, body), names)?;
+    let answer = answer(alloc, check(alloc, &config, &names));
+    drop(config);
+    drop(names);
+    allocated(answer)
 }
 
 /// `further NAMES BODY DISK`: the disk in a body as it is added to a machine of the configuration in another.
@@ -32,38 +24,25 @@ pub fn further(alloc: Global, words: &str) -> io::Result<String> {
     let (names, behind) = cut(words, ' ');
     let (body, disk) = cut(behind, ' ');
     let names = names_of(alloc, names)?;
+    let (now, names) = beside(now_of(alloc, body, &names), names)?;
+    let answer = added(alloc, &now, disk, &names);
+    drop(now);
+    drop(names);
+    answer
+}
+
+fn now_of(alloc: Global, body: &str, names: &Row<Name>) -> io::Result<Checked> {
     let config = read_config(alloc, body)?;
-    further_disk(alloc, &config, disk, &names)
+    let now = allowed(check(alloc, &config, names));
+    drop(config);
+    now
 }
 
-fn further_disk(
-    alloc: Global,
-    config: &VmConfig,
-    disk: &str,
-    names: &Row<Name>,
-) -> io::Result<String> {
-    let now = now_of(alloc, config, names)?;
+fn added(alloc: Global, now: &Checked, disk: &str, names: &Row<Name>) -> io::Result<String> {
     let disk = read_disk(alloc, disk)?;
-    Ok(added_or_ruled(alloc, &now, &disk, names)?)
-}
-
-fn added_or_ruled(
-    alloc: Global,
-    now: &Checked,
-    disk: &DiskConfig,
-    names: &Row<Name>,
-) -> Result<String, AllocError> {
-    match check_disk(alloc, now, disk, names)? {
-        Ok(disk) => text(alloc, &disk_text(alloc, &disk)?),
-        Err(rule) => ruled(alloc, rule),
-    }
-}
-
-fn now_of(alloc: Global, config: &VmConfig, names: &Row<Name>) -> io::Result<Checked> {
-    match check(alloc, config, names)? {
-        Ok(checked) => Ok(checked),
-        Err(rule) => Err(io::Error::other(rule.name())),
-    }
+    let answer = answer(alloc, check_disk(alloc, now, &disk, names));
+    drop(disk);
+    allocated(answer)
 }
 
 // Names with commas between them; `-` is none.
@@ -71,33 +50,32 @@ fn names_of(alloc: Global, words: &str) -> io::Result<Row<Name>> {
     let mut names = Row::empty(alloc);
     for word in words.split(',') {
         if word != "-" {
-            names.push(name_of(alloc, word)?)?;
+            push_name(alloc, &mut names, word)?;
         }
     }
     Ok(names)
 }
 
-fn name_of(alloc: Global, word: &str) -> io::Result<Name> {
-    match Name::of(Text::of(alloc, word)?) {
-        Ok(name) => Ok(name),
-        Err(_) => Err(io::Error::other("a word of the case is no name")),
-    }
+fn push_name(alloc: Global, names: &mut Row<Name>, word: &str) -> io::Result<()> {
+    let name = found(Name::of(Text::of(alloc, word)?).ok())?;
+    allocated(names.push(name))
 }
 
 // A configuration that is kept, and its zones in effect.
-fn kept(alloc: Global, checked: &Checked) -> Result<String, AllocError> {
-    let mut kept = text(alloc, &config_text(alloc, &checked.config)?)?;
-    for zone in checked.zones.as_slice() {
-        push_zone(&mut kept, zone)?;
+impl Shown for Checked {
+    fn shown(&self, alloc: Global) -> Result<String, AllocError> {
+        let mut kept = written(alloc, config_text(alloc, &self.config))?;
+        for zone in self.zones.as_slice() {
+            push_zone(&mut kept, zone)?;
+        }
+        Ok(kept)
     }
-    Ok(kept)
 }
 
 fn push_zone(kept: &mut String, zone: &ZoneConfig) -> Result<(), AllocError> {
     let id = zone.id.as_str();
     let size = zone.size;
-    write!(kept, " {id}:{size}")?;
     let hotplug = zone.hotplug;
     let hotplugged = zone.hotplugged;
-    write!(kept, ":{hotplug}:{hotplugged}")
+    write!(kept, " {id}:{size}:{hotplug}:{hotplugged}")
 }

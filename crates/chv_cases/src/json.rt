@@ -1,106 +1,93 @@
 // Bodies that are read, and texts that are written (`chv_json`).
-use crate::answers::{ruled, text};
+use crate::answers::{Shown, allocated, allowed, answer, beside, written};
 use crate::escapes::bytes_of;
 use crate::words::{cut, found, number};
 use chv_defs::{
     CountOf, DeviceInfo, DiskConfig, DiskCount, Info, Row, ShownState, Text, VmConfig, ZoneInfo,
 };
 use chv_json::{
-    config_of, config_text, counters_text, device_text, disk_of, disk_text, info_text, resize_of,
-    text_of, zone_of,
+    config_of, config_text, counters_text, device_text, disk_of, disk_text, info_text, text_of,
 };
 use std::alloc::{AllocError, Global};
 use std::io;
 
-/// `config BODY`: the configuration in a body, written again.
-pub fn config(alloc: Global, body: &[u8]) -> Result<String, AllocError> {
-    match config_of(alloc, body)? {
-        Ok(config) => text(alloc, &config_text(alloc, &config)?),
-        Err(rule) => ruled(alloc, rule),
+// A configuration, written again.
+impl Shown for VmConfig {
+    fn shown(&self, alloc: Global) -> Result<String, AllocError> {
+        written(alloc, config_text(alloc, self))
     }
 }
 
-/// `disk BODY`: the disk in a body, written again.
-pub fn disk(alloc: Global, body: &[u8]) -> Result<String, AllocError> {
-    match disk_of(alloc, body)? {
-        Ok(disk) => text(alloc, &disk_text(alloc, &disk)?),
-        Err(rule) => ruled(alloc, rule),
+// A disk, written again.
+impl Shown for DiskConfig {
+    fn shown(&self, alloc: Global) -> Result<String, AllocError> {
+        written(alloc, disk_text(alloc, self))
     }
 }
 
-/// `resize BODY`: the vCPUs and the memory that are asked for, `-` where none are.
-pub fn resize(alloc: Global, body: &[u8]) -> Result<String, AllocError> {
-    match resize_of(alloc, body)? {
-        Ok((vcpus, ram)) => resized(alloc, vcpus, ram),
-        Err(rule) => ruled(alloc, rule),
+// What a resize asks for.
+impl Shown for (Option<u64>, Option<u64>) {
+    fn shown(&self, alloc: Global) -> Result<String, AllocError> {
+        resized(alloc, self.0, self.1)
     }
 }
 
-/// What a resize asks for.
+// The zone and the memory that a resize of a zone asks for.
+impl Shown for (Text, u64) {
+    fn shown(&self, alloc: Global) -> Result<String, AllocError> {
+        zoned(alloc, &self.0, self.1)
+    }
+}
+
+/// The vCPUs and the memory that a resize asks for, `-` where none are.
 pub fn resized(alloc: Global, vcpus: Option<u64>, ram: Option<u64>) -> Result<String, AllocError> {
-    let vcpus = number_or_dash(alloc, vcpus)?;
-    let ram = number_or_dash(alloc, ram)?;
-    format!(in alloc; "resize {vcpus} {ram}")
+    let mut shown = String::from_str(alloc, "resize")?;
+    push_number(&mut shown, vcpus)?;
+    push_number(&mut shown, ram)?;
+    Ok(shown)
 }
 
-fn number_or_dash(alloc: Global, found: Option<u64>) -> Result<String, AllocError> {
+fn push_number(shown: &mut String, found: Option<u64>) -> Result<(), AllocError> {
     match found {
-        Some(number) => number.to_string(alloc),
-        None => String::from_str(alloc, "-"),
+        Some(number) => write!(shown, " {number}"),
+        None => shown.push_str(" -"),
     }
 }
 
-/// `zone BODY`: the zone and the memory that are asked for.
-pub fn zone(alloc: Global, body: &[u8]) -> Result<String, AllocError> {
-    match zone_of(alloc, body)? {
-        Ok((id, ram)) => zoned(alloc, &id, ram),
-        Err(rule) => ruled(alloc, rule),
-    }
-}
-
-/// What a resize of a zone asks for.
+/// The zone that a resize of a zone names, and the memory that it asks for.
 pub fn zoned(alloc: Global, id: &Text, ram: u64) -> Result<String, AllocError> {
-    let id = text(alloc, id)?;
+    let id = id.shown(alloc)?;
     format!(in alloc; "zone {id} {ram}")
 }
 
 /// `text KEY BODY`: the text at a key of a body.
 pub fn text_at(alloc: Global, words: &str) -> io::Result<String> {
     let (key, body) = cut(words, ' ');
-    Ok(text_in(alloc, bytes_of(alloc, body)?.as_slice(), key)?)
-}
-
-fn text_in(alloc: Global, body: &[u8], key: &str) -> Result<String, AllocError> {
-    match text_of(alloc, body, key)? {
-        Ok(found) => text(alloc, &found),
-        Err(rule) => ruled(alloc, rule),
-    }
+    let body = bytes_of(alloc, body)?;
+    allocated(answer(alloc, text_of(alloc, body.as_slice(), key)))
 }
 
 /// The configuration in a body that no rule refuses.
 pub fn read_config(alloc: Global, body: &str) -> io::Result<VmConfig> {
-    match config_of(alloc, bytes_of(alloc, body)?.as_slice())? {
-        Ok(config) => Ok(config),
-        Err(rule) => Err(io::Error::other(rule.name())),
-    }
+    let body = bytes_of(alloc, body)?;
+    allowed(config_of(alloc, body.as_slice()))
 }
 
 /// The disk in a body that no rule refuses.
 pub fn read_disk(alloc: Global, body: &str) -> io::Result<DiskConfig> {
-    match disk_of(alloc, bytes_of(alloc, body)?.as_slice())? {
-        Ok(disk) => Ok(disk),
-        Err(rule) => Err(io::Error::other(rule.name())),
-    }
+    let body = bytes_of(alloc, body)?;
+    allowed(disk_of(alloc, body.as_slice()))
 }
 
 /// `device SLOT ID`: a device as it is written.
 pub fn device(alloc: Global, words: &str) -> io::Result<String> {
     let (slot, id) = cut(words, ' ');
-    let device = DeviceInfo {
-        slot: found(slot.parse().ok())?,
-        id: Text::of(alloc, id)?,
-    };
-    Ok(text(alloc, &device_text(alloc, &device)?)?)
+    let slot = found(slot.parse().ok())?;
+    let id = Text::of(alloc, id)?;
+    let device = DeviceInfo { slot, id };
+    let text = device_text(alloc, &device);
+    drop(device);
+    allocated(written(alloc, text))
 }
 
 /// `info SIZE ZONE BODY`: what is shown of a machine that was created with the configuration in a body, where this is
@@ -108,42 +95,27 @@ pub fn device(alloc: Global, words: &str) -> io::Result<String> {
 pub fn info(alloc: Global, words: &str) -> io::Result<String> {
     let (size, behind) = cut(words, ' ');
     let (zone, body) = cut(behind, ' ');
-    let size = found(number(size))?;
+    let actual_size = found(number(size))?;
     let config = read_config(alloc, body)?;
-    Ok(shown_info(alloc, config, size, zone)?)
-}
-
-fn shown_info(
-    alloc: Global,
-    config: VmConfig,
-    size: u64,
-    zone: &str,
-) -> Result<String, AllocError> {
-    let info = created(alloc, config, size, zone)?;
-    text(alloc, &info_text(alloc, &info)?)
-}
-
-fn created(
-    alloc: Global,
-    config: VmConfig,
-    actual_size: u64,
-    zone: &str,
-) -> Result<Info, AllocError> {
-    let zones = zones_of(alloc, zone)?;
-    Ok(Info {
+    let (zones, config) = beside(allocated(zones_of(alloc, zone)), config)?;
+    let info = Info {
         config,
         devices: Row::empty(alloc),
         actual_size,
         state: ShownState::Created,
         vcpus: Row::empty(alloc),
         zones,
-    })
+    };
+    let text = info_text(alloc, &info);
+    drop(info);
+    allocated(written(alloc, text))
 }
 
 fn zones_of(alloc: Global, id: &str) -> Result<Row<ZoneInfo>, AllocError> {
+    let id = Text::of(alloc, id)?;
     let mut zones = Row::empty(alloc);
     zones.push(ZoneInfo {
-        id: Text::of(alloc, id)?,
+        id,
         plugged_size: 0,
         requested_size: 0,
     })?;
@@ -153,7 +125,9 @@ fn zones_of(alloc: Global, id: &str) -> Result<Row<ZoneInfo>, AllocError> {
 /// `counters COUNT ..`: counters as they are written.
 pub fn counters(alloc: Global, words: &str) -> io::Result<String> {
     let counts = counts_of(alloc, words)?;
-    Ok(text(alloc, &counters_text(alloc, &counts)?)?)
+    let text = counters_text(alloc, &counts);
+    drop(counts);
+    allocated(written(alloc, text))
 }
 
 /// Counters, each `ID,READS,READ_BYTES,WRITES,WRITE_BYTES`.
@@ -172,7 +146,7 @@ fn push_count(alloc: Global, counts: &mut Row<CountOf>, word: &str) -> io::Resul
     }
     let count = found(disk_count(numbers))?;
     let id = Text::of(alloc, id)?;
-    Ok(counts.push(CountOf { id, count })?)
+    allocated(counts.push(CountOf { id, count }))
 }
 
 fn disk_count(words: &str) -> Option<DiskCount> {

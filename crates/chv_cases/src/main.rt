@@ -30,6 +30,6 @@ fn write_line(rt: &(impl Print + AllocGlobal), line: &str) -> io::Result<()> {
     if kind == "" || kind == "#" {
         return Ok(());
     }
-    let answer = kinds::answer(rt.alloc(), kind, words)?;
+    let answer = kinds::answer_to(rt.alloc(), kind, words)?;
     println!(rt; "-> {answer}")
 }

@@ -1,30 +1,17 @@
 // Numbers as texts and as bytes (`chv_num`).
+use crate::answers::allocated;
 use crate::escapes::{bytes_of, shown};
 use crate::words::{cut, found, number};
-use chv_num::{bytes_of_hex, get_le, hex_of, put_le, read_dec, read_hex};
+use chv_num::{bytes_of_hex, get_le, hex_of, put_le};
 use std::alloc::{AllocError, Global};
 use std::io;
 
-/// `decimal TEXT`: the number that decimal digits spell.
-pub fn decimal(alloc: Global, text: &[u8]) -> Result<String, AllocError> {
-    number_or_none(alloc, read_dec(text))
-}
-
-/// `hexadecimal TEXT`: the number that hexadecimal digits behind `0x` spell.
-pub fn hexadecimal(alloc: Global, text: &[u8]) -> Result<String, AllocError> {
-    number_or_none(alloc, read_hex(text))
-}
-
-fn number_or_none(alloc: Global, found: Option<u64>) -> Result<String, AllocError> {
+/// A number, or `none`.
+pub fn number_or_none(alloc: Global, found: Option<u64>) -> Result<String, AllocError> {
     match found {
         Some(number) => number.to_string(alloc),
         None => String::from_str(alloc, "none"),
     }
-}
-
-/// `pairs TEXT`: the text as pairs of digits.
-pub fn pairs(alloc: Global, text: &[u8]) -> Result<String, AllocError> {
-    hex_of(alloc, text)
 }
 
 /// `bytes PAIRS`: the bytes that pairs of digits spell.
@@ -39,11 +26,15 @@ pub fn bytes(alloc: Global, text: &[u8]) -> Result<String, AllocError> {
 pub fn put(alloc: Global, words: &str) -> io::Result<String> {
     let mut fields = Vec::new(alloc);
     for word in words.split(' ') {
-        let (value, width) = cut(word, ':');
-        let value = found(number(value))?;
-        found(put_field(&mut fields, value, width))??;
+        put_word(&mut fields, word)?;
     }
-    Ok(hex_of(alloc, fields.as_slice())?)
+    allocated(hex_of(alloc, fields.as_slice()))
+}
+
+fn put_word(fields: &mut Vec<u8>, word: &str) -> io::Result<()> {
+    let (value, width) = cut(word, ':');
+    let value = found(number(value))?;
+    allocated(found(put_field(fields, value, width))?)
 }
 
 // Puts a field, where the value fits a width.
@@ -64,5 +55,5 @@ pub fn field(alloc: Global, words: &str) -> io::Result<String> {
     let at = found(at.parse().ok())?;
     let width = found(width.parse().ok())?;
     let bytes = bytes_of(alloc, text)?;
-    Ok(number_or_none(alloc, get_le(bytes.as_slice(), at, width))?)
+    allocated(number_or_none(alloc, get_le(bytes.as_slice(), at, width)))
 }

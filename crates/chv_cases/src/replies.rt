@@ -1,10 +1,10 @@
 // The bytes of replies (`chv_api`, `chv_http`).
+use crate::answers::{allocated, beside, written};
 use crate::calls::call_of;
-use crate::escapes::shown;
 use crate::json::counts_of;
 use crate::words::{cut, found, is_last};
 use chv_api::{refusal_of, reply_of};
-use chv_defs::{ControlCall, ControlReply, Rule, Text};
+use chv_defs::{ControlReply, Rule, Text};
 use chv_http::reply_bytes;
 use std::alloc::{AllocError, Global};
 use std::io;
@@ -14,39 +14,12 @@ pub fn reply(alloc: Global, words: &str) -> io::Result<String> {
     let (last, behind) = cut(words, ' ');
     let (answer, request) = cut(behind, ' ');
     let last = found(is_last(last))?;
-    let answer = answer_of(alloc, answer)?;
-    reply_to_request(alloc, request, &answer, last)
-}
-
-fn reply_to_request(
-    alloc: Global,
-    request: &str,
-    answer: &ControlReply,
-    last: bool,
-) -> io::Result<String> {
     let call = call_of(alloc, request)?;
-    reply_to_made(alloc, &call, answer, last)
-}
-
-fn reply_to_made(
-    alloc: Global,
-    call: &Result<ControlCall, Rule>,
-    answer: &ControlReply,
-    last: bool,
-) -> io::Result<String> {
-    match call {
-        Ok(call) => Ok(reply_to(alloc, call, answer, last)?),
-        Err(rule) => Err(io::Error::other(rule.name())),
-    }
-}
-
-fn reply_to(
-    alloc: Global,
-    call: &ControlCall,
-    answer: &ControlReply,
-    last: bool,
-) -> Result<String, AllocError> {
-    shown(alloc, reply_of(alloc, answer, call, last)?.as_slice())
+    let (answer, call) = beside(answer_of(alloc, answer), call)?;
+    let reply = reply_of(alloc, &answer, &call, last);
+    drop(answer);
+    drop(call);
+    allocated(written(alloc, reply))
 }
 
 // `done`, `added,ID,SLOT`, `counted,COUNT`, or the name of a rule.
@@ -62,17 +35,17 @@ fn answer_of(alloc: Global, word: &str) -> io::Result<ControlReply> {
 
 fn added(alloc: Global, words: &str) -> io::Result<ControlReply> {
     let (id, slot) = cut(words, ',');
-    Ok(ControlReply::Added {
-        id: Text::of(alloc, id)?,
-        slot: found(slot.parse().ok())?,
-    })
+    let slot = found(slot.parse().ok())?;
+    let id = Text::of(alloc, id)?;
+    Ok(ControlReply::Added { id, slot })
 }
 
 /// `refusal LAST RULE`: the reply that a rule refuses a request by before it makes a call.
 pub fn refusal(alloc: Global, words: &str) -> io::Result<String> {
     let (last, rule) = cut(words, ' ');
-    let reply = refusal_of(alloc, found(rule_of(rule))?, found(is_last(last))?)?;
-    Ok(shown(alloc, reply.as_slice())?)
+    let rule = found(rule_of(rule))?;
+    let last = found(is_last(last))?;
+    allocated(written(alloc, refusal_of(alloc, rule, last)))
 }
 
 // The rules that cases name.
@@ -99,7 +72,7 @@ pub fn status(alloc: Global, words: &str) -> io::Result<String> {
     let (status, body) = cut(behind, ' ');
     let status = found(status.parse().ok())?;
     let last = found(is_last(last))?;
-    Ok(reply_with(alloc, status, body, last)?)
+    allocated(reply_with(alloc, status, body, last))
 }
 
 fn reply_with(alloc: Global, status: u16, body: &str, last: bool) -> Result<String, AllocError> {
@@ -109,5 +82,5 @@ fn reply_with(alloc: Global, status: u16, body: &str, last: bool) -> Result<Stri
     } else {
         Some(&body)
     };
-    shown(alloc, reply_bytes(alloc, status, body, last)?.as_slice())
+    written(alloc, reply_bytes(alloc, status, body, last))
 }

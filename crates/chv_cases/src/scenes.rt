@@ -1,4 +1,5 @@
 // Scenarios (`chv_scene`).
+use crate::answers::{Shown, answer};
 use crate::escapes::shown;
 use chv_defs::{Asked, Row, Scene};
 use chv_scene::{SceneFault, read};
@@ -11,31 +12,32 @@ pub fn scene(alloc: Global, text: &[u8]) -> Result<String, AllocError> {
     if MOST < text.len() {
         return String::from_str(alloc, "too long");
     }
-    match read(alloc, text)? {
-        Ok(scene) => read_scene(alloc, &scene),
-        Err(fault) => failed(alloc, &fault),
-    }
+    answer(alloc, read(alloc, text))
 }
 
-fn failed(alloc: Global, fault: &SceneFault) -> Result<String, AllocError> {
-    let line = fault.line;
-    let reason = fault.reason.name();
-    format!(in alloc; "line {line}: {reason}")
+impl Shown for SceneFault {
+    fn shown(&self, alloc: Global) -> Result<String, AllocError> {
+        let line = self.line;
+        let reason = self.reason.name();
+        format!(in alloc; "line {line}: {reason}")
+    }
 }
 
 // How many of each section there are, and the requests of each session.
-fn read_scene(alloc: Global, scene: &Scene) -> Result<String, AllocError> {
-    let sessions = scene.sessions.len();
-    let disks = scene.disks.len();
-    let vcpus = scene.vcpus.len();
-    let order = if scene.order.is_some() { "an" } else { "no" };
-    let mut text = format!(in alloc;
-        "{sessions} sessions, {disks} disks, {vcpus} vcpus, {order} order"
-    )?;
-    for session in scene.sessions.as_slice() {
-        push_session(alloc, &mut text, session)?;
+impl Shown for Scene {
+    fn shown(&self, alloc: Global) -> Result<String, AllocError> {
+        let sessions = self.sessions.len();
+        let disks = self.disks.len();
+        let vcpus = self.vcpus.len();
+        let order = if self.order.is_some() { "an" } else { "no" };
+        let mut text = format!(in alloc;
+            "{sessions} sessions, {disks} disks, {vcpus} vcpus, {order} order"
+        )?;
+        for session in self.sessions.as_slice() {
+            push_session(alloc, &mut text, session)?;
+        }
+        Ok(text)
     }
-    Ok(text)
 }
 
 fn push_session(alloc: Global, text: &mut String, session: &Row<Asked>) -> Result<(), AllocError> {

@@ -1,4 +1,5 @@
 // Streams of bytes and the requests that are cut from them (`chv_http`).
+use crate::answers::{allocated, beside};
 use crate::escapes::{bytes_of, shown};
 use crate::words::{cut, found};
 use chv_defs::{Request, Took};
@@ -10,40 +11,73 @@ use std::io;
 pub fn stream(alloc: Global, words: &str) -> io::Result<String> {
     let (sizes, text) = cut(words, ' ');
     let stream = bytes_of(alloc, text)?;
-    let mut answer = String::from_str(alloc, "taken")?;
-    for word in sizes.split(',') {
-        let taken = cut_by(alloc, stream.as_slice(), found(word.parse().ok())?)?;
-        write!(answer, " | by {word}:{taken}")?;
+    let mut answer = String::new(alloc);
+    let taken = push_all_taken(alloc, &mut answer, stream.as_slice(), sizes);
+    drop(stream);
+    Ok(beside(taken, answer)?.1)
+}
+
+fn push_all_taken(
+    alloc: Global,
+    answer: &mut String,
+    stream: &[u8],
+    sizes: &str,
+) -> io::Result<()> {
+    answer.push_str("taken")?;
+    for size in sizes.split(',') {
+        push_taken(alloc, answer, stream, size)?;
     }
-    Ok(answer)
+    Ok(())
+}
+
+fn push_taken(alloc: Global, answer: &mut String, stream: &[u8], size: &str) -> io::Result<()> {
+    let taken = cut_by(alloc, stream, found(size.parse().ok())?)?;
+    allocated(write!(answer, " | by {size}:{taken}"))
 }
 
 fn cut_by(alloc: Global, stream: &[u8], size: usize) -> io::Result<String> {
+    let mut parser = Parser::new(alloc)?;
+    let mut taken = String::new(alloc);
+    let fed = feed_by(&mut parser, &mut taken, stream, size);
+    drop(parser);
+    let (_, taken) = beside(fed, taken)?;
+    allocated(shown(alloc, taken.as_bytes()))
+}
+
+fn feed_by(parser: &mut Parser, taken: &mut String, stream: &[u8], size: usize) -> io::Result<()> {
     if size == 0 {
         return Err(io::Error::other("the case has pieces of no bytes"));
     }
-    let mut parser = Parser::new(alloc)?;
-    let mut taken = String::new(alloc);
     for piece in stream.chunks(size) {
-        if !feed(&mut parser, &mut taken, piece)? {
+        if !feed(parser, taken, piece)? {
             break;
         }
     }
-    Ok(shown(alloc, taken.as_bytes())?)
+    Ok(())
 }
 
 /// `pieces PIECE|PIECE|..`: what is taken from a text that comes in these pieces, also behind a refusal.
 pub fn pieces(alloc: Global, words: &str) -> io::Result<String> {
     let mut parser = Parser::new(alloc)?;
-    let mut taken = String::from_str(alloc, "taken:")?;
-    for piece in words.split('|') {
-        feed_text(alloc, &mut parser, &mut taken, piece)?;
-    }
-    Ok(taken)
+    let mut taken = String::new(alloc);
+    let fed = feed_pieces(alloc, &mut parser, &mut taken, words);
+    drop(parser);
+    Ok(beside(fed, taken)?.1)
 }
 
-fn feed_text(alloc: Global, parser: &mut Parser, taken: &mut String, text: &str) -> io::Result<()> {
-    let _ = feed(parser, taken, bytes_of(alloc, text)?.as_slice())?;
+fn feed_pieces(
+    alloc: Global,
+    parser: &mut Parser,
+    taken: &mut String,
+    words: &str,
+) -> io::Result<()> {
+    taken.push_str("taken:")?;
+    for piece in words.split('|') {
+        let piece = bytes_of(alloc, piece)?;
+        let fed = feed(parser, taken, piece.as_slice());
+        drop(piece);
+        let _ = fed?;
+    }
     Ok(())
 }
 
@@ -57,7 +91,11 @@ fn feed(parser: &mut Parser, taken: &mut String, piece: &[u8]) -> Result<bool, A
                 note(taken, rule.name())?;
                 return Ok(false);
             }
-            Took::Request(request) => note_request(taken, &request)?,
+            Took::Request(request) => {
+                let noted = note_request(taken, &request);
+                drop(request);
+                noted?;
+            }
         }
     }
     Ok(true)
