@@ -5,7 +5,7 @@ ghost use Rattle.serde_json.specs.View.{members_view};
 ghost use Rattle.chv_defs.specs.JsonTexts.{members_of, whole, method_value, cpus_value};
 ghost use Rattle.chv_defs.specs.JsonTexts.{zone_value, memory_value, disk_value, config_value};
 
-use crate::to_json::{ToJson, put, put_all};
+use crate::to_json::{ToJson, with, with_all};
 use chv_defs::{CpuConfig, DiskConfig, Hotplug, MemConfig, VmConfig, ZoneConfig};
 use serde_json::{Map, Value};
 use std::alloc::{AllocError, Global};
@@ -31,9 +31,9 @@ impl ToJson for CpuConfig {
     ghost json = { cpus_value };
 
     fn to_json(&self, alloc: Global) -> Result<Value, AllocError> {
-        let mut object = Map::new(alloc);
-        put(&mut object, alloc, "boot_vcpus", &self.boot)?;
-        put(&mut object, alloc, "max_vcpus", &self.max)?;
+        let object = Map::new(alloc);
+        let object = with(object, alloc, "boot_vcpus", &self.boot)?;
+        let object = with(object, alloc, "max_vcpus", &self.max)?;
         Ok(Value::Object(object))
     }
 }
@@ -42,11 +42,11 @@ impl ToJson for ZoneConfig {
     ghost json = { zone_value };
 
     fn to_json(&self, alloc: Global) -> Result<Value, AllocError> {
-        let mut object = Map::new(alloc);
-        put(&mut object, alloc, "hotplug_size", &self.hotplug)?;
-        put(&mut object, alloc, "hotplugged_size", &self.hotplugged)?;
-        put(&mut object, alloc, "id", &self.id)?;
-        put(&mut object, alloc, "size", &self.size)?;
+        let object = Map::new(alloc);
+        let object = with(object, alloc, "hotplug_size", &self.hotplug)?;
+        let object = with(object, alloc, "hotplugged_size", &self.hotplugged)?;
+        let object = with(object, alloc, "id", &self.id)?;
+        let object = with(object, alloc, "size", &self.size)?;
         Ok(Value::Object(object))
     }
 }
@@ -55,12 +55,12 @@ impl ToJson for MemConfig {
     ghost json = { memory_value };
 
     fn to_json(&self, alloc: Global) -> Result<Value, AllocError> {
-        let mut object = Map::new(alloc);
-        put(&mut object, alloc, "hotplug_method", &self.way)?;
-        put(&mut object, alloc, "hotplug_size", &self.hotplug)?;
-        put(&mut object, alloc, "hotplugged_size", &self.hotplugged)?;
-        put(&mut object, alloc, "size", &self.size)?;
-        put_all(&mut object, alloc, "zones", self.zones.as_slice())?;
+        let object = Map::new(alloc);
+        let object = with(object, alloc, "hotplug_method", &self.way)?;
+        let object = with(object, alloc, "hotplug_size", &self.hotplug)?;
+        let object = with(object, alloc, "hotplugged_size", &self.hotplugged)?;
+        let object = with(object, alloc, "size", &self.size)?;
+        let object = with_all(object, alloc, "zones", self.zones.as_slice())?;
         Ok(Value::Object(object))
     }
 }
@@ -69,11 +69,11 @@ impl ToJson for MemConfig {
 fn disk_members(alloc: Global, disk: &DiskConfig) -> Result<Map<String, Value>, AllocError>
     ensures { IfOk result (λ m. members_view m.entries ≡ members_of ((codes "num_queues", whole disk.now.queues) ∷ (codes "path", string disk.now.path) ∷ (codes "queue_size", whole disk.now.queue_size) ∷ (codes "readonly", boolean disk.now.readonly) ∷ [])) }
 {
-    let mut object = Map::new(alloc);
-    put(&mut object, alloc, "num_queues", &disk.queues)?;
-    put(&mut object, alloc, "path", &disk.path)?;
-    put(&mut object, alloc, "queue_size", &disk.queue_size)?;
-    put(&mut object, alloc, "readonly", &disk.readonly)?;
+    let object = Map::new(alloc);
+    let object = with(object, alloc, "num_queues", &disk.queues)?;
+    let object = with(object, alloc, "path", &disk.path)?;
+    let object = with(object, alloc, "queue_size", &disk.queue_size)?;
+    let object = with(object, alloc, "readonly", &disk.readonly)?;
     Ok(object)
 }
 
@@ -81,10 +81,11 @@ impl ToJson for DiskConfig {
     ghost json = { disk_value };
 
     fn to_json(&self, alloc: Global) -> Result<Value, AllocError> {
-        let mut object = disk_members(alloc, self)?;
-        if let Some(id) = &self.id {
-            put(&mut object, alloc, "id", id)?;
-        }
+        let object = disk_members(alloc, self)?;
+        let object = match &self.id {
+            Some(id) => with(object, alloc, "id", id)?,
+            None => object,
+        };
         Ok(Value::Object(object))
     }
 }
@@ -93,10 +94,10 @@ impl ToJson for VmConfig {
     ghost json = { config_value };
 
     fn to_json(&self, alloc: Global) -> Result<Value, AllocError> {
-        let mut object = Map::new(alloc);
-        put(&mut object, alloc, "cpus", &self.cpus)?;
-        put_all(&mut object, alloc, "disks", self.disks.as_slice())?;
-        put(&mut object, alloc, "memory", &self.memory)?;
+        let object = Map::new(alloc);
+        let object = with(object, alloc, "cpus", &self.cpus)?;
+        let object = with_all(object, alloc, "disks", self.disks.as_slice())?;
+        let object = with(object, alloc, "memory", &self.memory)?;
         Ok(Value::Object(object))
     }
 }

@@ -5,7 +5,7 @@ ghost use Rattle.serde_json.specs.View.{view};
 ghost use Rattle.chv_defs.specs.JsonTexts.{bdf_text, device_value, zone_info_value};
 ghost use Rattle.chv_defs.specs.JsonTexts.{state_value, info_value, count_value, counters_value};
 
-use crate::to_json::{ToJson, put, put_all};
+use crate::to_json::{ToJson, with, with_all, with_value};
 use chv_defs::{CountOf, DeviceInfo, DiskCount, Info, ShownState, ZoneInfo};
 use serde_json::{Map, Value};
 use std::alloc::{AllocError, Global};
@@ -21,9 +21,9 @@ impl ToJson for DeviceInfo {
 
     fn to_json(&self, alloc: Global) -> Result<Value, AllocError> {
         let bdf = Value::String(bdf(alloc, self.slot)?);
-        let mut object = Map::new(alloc);
-        serde_json::put(&mut object, alloc, "bdf", bdf)?;
-        put(&mut object, alloc, "id", &self.id)?;
+        let object = Map::new(alloc);
+        let object = with_value(object, alloc, "bdf", bdf)?;
+        let object = with(object, alloc, "id", &self.id)?;
         Ok(Value::Object(object))
     }
 }
@@ -32,10 +32,10 @@ impl ToJson for ZoneInfo {
     ghost json = { zone_info_value };
 
     fn to_json(&self, alloc: Global) -> Result<Value, AllocError> {
-        let mut object = Map::new(alloc);
-        put(&mut object, alloc, "id", &self.id)?;
-        put(&mut object, alloc, "plugged_size", &self.plugged_size)?;
-        put(&mut object, alloc, "requested_size", &self.requested_size)?;
+        let object = Map::new(alloc);
+        let object = with(object, alloc, "id", &self.id)?;
+        let object = with(object, alloc, "plugged_size", &self.plugged_size)?;
+        let object = with(object, alloc, "requested_size", &self.requested_size)?;
         Ok(Value::Object(object))
     }
 }
@@ -63,13 +63,13 @@ impl ToJson for Info {
     ghost json = { info_value };
 
     fn to_json(&self, alloc: Global) -> Result<Value, AllocError> {
-        let mut object = Map::new(alloc);
-        put(&mut object, alloc, "config", &self.config)?;
-        put_all(&mut object, alloc, "devices", self.devices.as_slice())?;
-        put(&mut object, alloc, "memory_actual_size", &self.actual_size)?;
-        put(&mut object, alloc, "state", &self.state)?;
-        put_all(&mut object, alloc, "vcpus", self.vcpus.as_slice())?;
-        put_all(&mut object, alloc, "zones", self.zones.as_slice())?;
+        let object = Map::new(alloc);
+        let object = with(object, alloc, "config", &self.config)?;
+        let object = with_all(object, alloc, "devices", self.devices.as_slice())?;
+        let object = with(object, alloc, "memory_actual_size", &self.actual_size)?;
+        let object = with(object, alloc, "state", &self.state)?;
+        let object = with_all(object, alloc, "vcpus", self.vcpus.as_slice())?;
+        let object = with_all(object, alloc, "zones", self.zones.as_slice())?;
         Ok(Value::Object(object))
     }
 }
@@ -78,11 +78,11 @@ impl ToJson for DiskCount {
     ghost json = { count_value };
 
     fn to_json(&self, alloc: Global) -> Result<Value, AllocError> {
-        let mut object = Map::new(alloc);
-        put(&mut object, alloc, "read_bytes", &self.read_bytes)?;
-        put(&mut object, alloc, "read_ops", &self.reads)?;
-        put(&mut object, alloc, "write_bytes", &self.write_bytes)?;
-        put(&mut object, alloc, "write_ops", &self.writes)?;
+        let object = Map::new(alloc);
+        let object = with(object, alloc, "read_bytes", &self.read_bytes)?;
+        let object = with(object, alloc, "read_ops", &self.reads)?;
+        let object = with(object, alloc, "write_bytes", &self.write_bytes)?;
+        let object = with(object, alloc, "write_ops", &self.writes)?;
         Ok(Value::Object(object))
     }
 }
@@ -93,7 +93,7 @@ pub(crate) fn counters(alloc: Global, counts: &[CountOf]) -> Result<Value, Alloc
 {
     let mut members = Map::new(alloc);
     for count in counts {
-        put(&mut members, alloc, count.id.as_str(), &count.count)?;
+        members = with(members, alloc, count.id.as_str(), &count.count)?;
     }
     Ok(Value::Object(members))
 }

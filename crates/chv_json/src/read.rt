@@ -59,7 +59,13 @@ fn resize(alloc: Global, body: &[u8]) -> Result<(Option<u64>, Option<u64>), Refu
     ensures { Gives (λ x. x) result (bodies.resize_of body.now) }
 {
     let value = value_of(alloc, body)?;
-    let object = an_object(&value)?;
+    resize_in(&value)
+}
+
+fn resize_in(value: &Value) -> Result<(Option<u64>, Option<u64>), Refused>
+    ensures { Gives (λ x. x) result (bodies.resize_in (view value.now)) }
+{
+    let object = an_object(value)?;
     let vcpus = whole_given(object, "desired_vcpus")?;
     let ram = whole_given(object, "desired_ram")?;
     Ok((vcpus, ram))
@@ -70,7 +76,13 @@ fn zone(alloc: Global, body: &[u8]) -> Result<(Text, u64), Refused>
     ensures { Gives (λ x. x) result (bodies.zone_of body.now) }
 {
     let value = value_of(alloc, body)?;
-    let object = an_object(&value)?;
+    zone_in(alloc, &value)
+}
+
+fn zone_in(alloc: Global, value: &Value) -> Result<(Text, u64), Refused>
+    ensures { Gives (λ x. x) result (bodies.zone_resize_in (view value.now)) }
+{
+    let object = an_object(value)?;
     let id = text(alloc, object, "id")?;
     let ram = whole(object, "desired_ram")?;
     Ok((id, ram))

@@ -36,30 +36,43 @@ fn push<T: ToJson>(values: &mut Vec<Value>, alloc: Global, item: &T) -> Result<(
     Ok(())
 }
 
-/// Gives an object a member: the value of something, at a key.
-pub(crate) fn put<T: ToJson>(
-    object: &mut Map<String, Value>,
+/// The object with one member more: a value at a key.
+pub(crate) fn with_value(
+    mut object: Map<String, Value>,
+    alloc: Global,
+    key: &str,
+    value: Value,
+) -> Result<Map<String, Value>, AllocError>
+    ensures { IfOk result (λ more. members_view more.entries ≡ with_member key.now (view value) (members_view object.entries)) }
+{
+    serde_json::put(&mut object, alloc, key, value)?;
+    Ok(object)
+}
+
+/// The same, with the value of something.
+pub(crate) fn with<T: ToJson>(
+    object: Map<String, Value>,
     alloc: Global,
     key: &str,
     item: &T,
-) -> Result<(), AllocError>
-    ensures { OnOk result (members_view object.new.entries ≡ with_member key.now (T.json item.now) (members_view object.old.entries)) }
+) -> Result<Map<String, Value>, AllocError>
+    ensures { IfOk result (λ more. members_view more.entries ≡ with_member key.now (T.json item.now) (members_view object.entries)) }
 {
     let value = item.to_json(alloc)?;
-    serde_json::put(object, alloc, key, value)
+    with_value(object, alloc, key, value)
 }
 
 /// The same, with an array of the values of some items.
-pub(crate) fn put_all<T: ToJson>(
-    object: &mut Map<String, Value>,
+pub(crate) fn with_all<T: ToJson>(
+    object: Map<String, Value>,
     alloc: Global,
     key: &str,
     items: &[T],
-) -> Result<(), AllocError>
-    ensures { OnOk result (members_view object.new.entries ≡ with_member key.now (array_of T.json items.now) (members_view object.old.entries)) }
+) -> Result<Map<String, Value>, AllocError>
+    ensures { IfOk result (λ more. members_view more.entries ≡ with_member key.now (array_of T.json items.now) (members_view object.entries)) }
 {
     let value = array(alloc, items)?;
-    serde_json::put(object, alloc, key, value)
+    with_value(object, alloc, key, value)
 }
 
 impl ToJson for u8 {
