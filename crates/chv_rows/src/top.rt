@@ -4,7 +4,7 @@ use chv_defs::{Bytes, Name, Row};
 use chv_io::{MemSink, MemSource};
 use chv_samples::{name, numbers};
 use chv_store::MemDisk;
-use chv_top::run_program;
+use chv_top::{play_program, run_program};
 use std::alloc::{AllocError, Global};
 use std::test::Fail;
 
@@ -99,6 +99,14 @@ fn ends(
     Ok(has_ended && out.written() == line.as_bytes())
 }
 
+// Whether a text of this many bytes is too long, and the disk comes back.
+fn is_too_long(alloc: Global, length: usize, out: &mut MemSink) -> Result<bool, Fail> {
+    let text = vec![in alloc; b'a'; length]?;
+    let mut input = MemSource::new(Bytes::new(text), Row::empty(alloc));
+    let ended = play_program(alloc, &mut input, out, disks_of(alloc, "root")?);
+    Ok(ended.status.code() == 9 && ended.disks.len() == 1)
+}
+
 const OTHER_WORDS: [&str; 6] = [
     "run",
     "serve 0 8080",
@@ -140,5 +148,13 @@ fn programs(rt: HostRuntime) -> Result<(), Fail> {
     );
     assert!(rt; ends(rt.alloc(), "play", 0, 1, 4, "")?);
     assert!(rt; ends(rt.alloc(), "run", 0, 1, 4, "")?);
+    Ok(())
+}
+
+#[test]
+fn an_input_that_is_too_long(rt: HostRuntime) -> Result<(), Fail> {
+    let mut out = MemSink::new(rt.alloc(), 100, Row::empty(rt.alloc()))?;
+    assert!(rt; is_too_long(rt.alloc(), 16_777_217, &mut out)?);
+    assert!(rt; out.written() == "chv: too long\n".as_bytes());
     Ok(())
 }
