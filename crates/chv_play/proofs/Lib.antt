@@ -12,3 +12,4 @@ pub mod AskLemmas
 pub mod LeadLemmas
 pub mod RoundLoopLemmas
 pub mod PlayedLemmas
+pub mod CallerLemmas

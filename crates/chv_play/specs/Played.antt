@@ -1,6 +1,6 @@
 -- What playing sessions comes to.
-use Rattle.std.specs.Prelude.{◌≡◌, ◌≢◌, true, ℕ, ◌+◌, List, [], ◌∷◌, Option, None, Some, Result, Ok, Err}
-use Rattle.std.specs.List.{AllByRecursion}
+use Rattle.std.specs.Prelude.{◌≡◌, ◌≢◌, ◌≤◌, true, ℕ, ◌+◌, List, [], ◌∷◌, length, map, Option, None, Some, Result, Ok, Err}
+use Rattle.std.specs.List.{AllByRecursion, range_with_len}
 use Rattle.chv_defs.specs.declared.bank.Full.{Full}
 use Rattle.chv_defs.specs.declared.context.StopCause.{StopCause}
 use Rattle.chv_defs.specs.declared.context.StopCause.TheVariants as cause
@@ -57,19 +57,34 @@ MadeItsCalls history session =
 abbrev pub AreInOrder : List ControlEntry → List SessionTrace → Type 0
 AreInOrder history sessions = AllByRecursion (MadeItsCalls history) sessions
 
+-- The sessions have the numbers 1, 2 and so on, in order.
+abbrev pub AreNumbered : List SessionTrace → Type 0
+AreNumbered sessions = map (λ (session : SessionTrace). session.session) sessions ≡ range_with_len 1 (length sessions)
+
+-- The caller of an entry is one of so many sessions, by its number.
+abbrev pub IsCallOfOne : ℕ → ControlEntry → Type 0
+IsCallOfOne sessions entry = (1 ≤ entry.caller) × (entry.caller ≤ sessions)
+
+-- No entry is another caller's: each is the call of one of the sessions.
+abbrev pub AreCallsOf : List SessionTrace → List ControlEntry → Type 0
+AreCallsOf sessions history = AllByRecursion (IsCallOfOne (length sessions)) history
+
 -- What the sessions left makes the trace that is due, and each made its calls in order; or this book is full, as is due.
 abbrev pub Gives : Result Trace Full → List ControlEntry → Result (List SessionTrace) Full → Type 0
 Gives due history (Ok logs) = (due ≡ Ok (trace_with history logs)) × AreInOrder history logs
 Gives due history (Err full) = due ≡ Err full
 
--- The control history of a run is legal where these disks stand by, and in it each session made its calls in order.
+-- The control history of a run is legal where these disks stand by. The sessions are numbered from 1 on; each entry of the
+-- history is the call of one of them, and each of them made its calls in order.
 pub record IsLegalRun (shelf : List OnShelf) (trace : Trace) : Type 0 where
   pub machine : Machine
   pub legal : IsLegal shelf trace.control machine
+  pub numbers : AreNumbered trace.sessions
+  pub callers : AreCallsOf trace.sessions trace.control
   pub in_order : AreInOrder trace.control trace.sessions
 
 -- What playing comes to where these disks stand by: the trace that is due, whose control history is legal, with the calls of
--- each session in order; the book that is full where that is due; or want of memory.
+-- each session in order and no others; the book that is full where that is due; or want of memory.
 abbrev pub Comes : List OnShelf → Result Trace Full → Option Trace → Option StopCause → Type 0
 Comes shelf due (Some trace) None = (due ≡ Ok trace) × IsLegalRun shelf trace
 Comes shelf due None (Some (cause.Full full)) = due ≡ Err full

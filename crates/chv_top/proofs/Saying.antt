@@ -15,6 +15,7 @@ use Rattle.chv_defs.specs.ScenarioText.{Fault, Sessions, read_scenario}
 use Rattle.chv_defs.specs.Schedule.{Stage, schedule, trace_at, trace_of, trace_of_streams}
 use Rattle.chv_defs.specs.TraceText.{trace_text}
 use Rattle.chv_play.specs.Played.{Comes, IsLegalRun}
+use Rattle.chv_play.proofs.CallerLemmas.{scheduled_of_sessions}
 use Rattle.chv_scene.specs.Answer.{answer_of, scene_of}
 use Rattle.chv_top.specs.Outcome.{IsComplete, IsFull, IsInput, IsOwed, IsPartOfOwed, IsPlayed, IsRead, IsRefused, IsTooLong, most_input, of_scenario, of_schedule, outcome_of, status_of, text_of, TooLong, Refused, Fills, Gives, Outcome}
 use Rattle.chv_top.specs.Says.{IsPlain, IsScene, Reports, ReportsFull, ReportsTrace, Says, StopsBy, Tells, Writes}
@@ -167,7 +168,17 @@ says_stop shelf left left_after reads reads_after w w' f f' (stop.Scene fault) r
 pub says_scene : (shelf : List OnShelf) (left left_after : Option (List ℕ)) (reads reads_after : ℕ) (w w' : Option (List ℕ)) (f f' : ℕ) (scene : Scene) (result : Status)
     → IsScene left left_after scene → Reports shelf (schedule shelf scene.sessions) w w' f f' result → Says shelf left left_after reads reads_after w w' f f' result
 says_scene shelf left left_after reads reads_after w w' f f' scene status.Done is reports =
-    record { text = is.text; sessions = scene.sessions; trace = reports.0; read = is.read; scenario = is.scenario; scheduled = reports.1; legal = reports.2; output = reports.3 }
+    record {
+      text = is.text;
+      sessions = scene.sessions;
+      trace = reports.0;
+      read = is.read;
+      scenario = is.scenario;
+      scheduled = reports.1;
+      one_each = (scheduled_of_sessions shelf scene.sessions reports.0 reports.1).one_each;
+      legal = reports.2;
+      output = reports.3;
+    }
 says_scene shelf left left_after reads reads_after w w' f f' scene (status.Full book entries bytes) is reports =
     record { text = is.text; sessions = scene.sessions; read = is.read; scenario = is.scenario; fills = reports.0; output = reports.1 }
 says_scene shelf left left_after reads reads_after w w' f f' scene status.WriteFault is reports =

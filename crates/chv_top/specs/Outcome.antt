@@ -85,8 +85,8 @@ TakesAtMost left left_after most = (taken : List ℕ) × Loses left left_after t
 -- ---- what the statuses say
 
 -- A scenario was played: the input, read to its end, is a scenario of these sessions; the trace is the one that the
--- schedule gives, where these disks stand by, and what was written is its text. Its control history is legal, and in it each
--- session made its calls in order.
+-- schedule gives, where these disks stand by, and what was written is its text. It has one log for each of the sessions; its
+-- control history is legal, and is made of the calls of these sessions alone, those of each in order.
 pub record IsPlayed (shelf : List OnShelf) (left left_after written written_after : Option (List ℕ)) : Type 0 where
   pub text : List ℕ
   pub sessions : Sessions
@@ -94,6 +94,7 @@ pub record IsPlayed (shelf : List OnShelf) (left left_after written written_afte
   pub read : IsRead left left_after text
   pub scenario : read_scenario text ≡ Ok sessions
   pub scheduled : schedule shelf sessions ≡ Ok trace
+  pub one_each : length trace.sessions ≡ length sessions
   pub legal : IsLegalRun shelf trace
   pub output : Gains written written_after (trace_text trace)
 
