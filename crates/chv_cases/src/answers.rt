@@ -60,11 +60,3 @@ pub fn allowed<T: Drop>(given: Result<Result<T, Rule>, AllocError>) -> io::Resul
 pub fn allocated<T: Drop>(value: Result<T, AllocError>) -> io::Result<T> {
     Ok(value?)
 }
-
-/// A value, where there is one, beside one that is kept.
-pub fn beside<T: Drop, K: Drop>(value: io::Result<T>, kept: K) -> io::Result<(T, K)> {
-    match value {
-        Ok(value) => Ok((value, kept)),
-        Err(error) => Err(error),
-    }
-}

@@ -1,10 +1,10 @@
 // Requests and the control calls that they make (`chv_api`).
-use crate::answers::{Shown, allocated, allowed, answer, beside, written};
+use crate::answers::{Shown, allocated, allowed, answer, written};
 use crate::escapes::bytes_of;
 use crate::json::{resized, zoned};
 use crate::words::cut;
 use chv_api::calls_of;
-use chv_defs::{Bytes, ControlCall, Goal, Request, Text};
+use chv_defs::{Bytes, ControlCall, Goal, Request, Text, beside};
 use chv_json::{config_text, disk_text};
 use std::alloc::{AllocError, Global};
 use std::io;

@@ -1,9 +1,9 @@
 // Configurations that are checked (`chv_config`).
-use crate::answers::{Shown, allocated, allowed, answer, beside, written};
+use crate::answers::{Shown, allocated, allowed, answer, written};
 use crate::json::{read_config, read_disk};
 use crate::words::{cut, found};
 use chv_config::{check, check_disk};
-use chv_defs::{Checked, Name, Row, Text, ZoneConfig};
+use chv_defs::{Checked, Name, Row, Text, ZoneConfig, beside};
 use chv_json::config_text;
 use std::alloc::{AllocError, Global};
 use std::io;

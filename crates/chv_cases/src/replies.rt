@@ -1,10 +1,10 @@
 // The bytes of replies (`chv_api`, `chv_http`).
-use crate::answers::{allocated, beside, written};
+use crate::answers::{allocated, written};
 use crate::calls::call_of;
 use crate::json::counts_of;
 use crate::words::{cut, found, is_last};
 use chv_api::{refusal_of, reply_of};
-use chv_defs::{ControlReply, Rule, Text};
+use chv_defs::{ControlReply, Rule, Text, beside};
 use chv_http::reply_bytes;
 use std::alloc::{AllocError, Global};
 use std::io;

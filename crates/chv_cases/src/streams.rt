@@ -1,8 +1,8 @@
 // Streams of bytes and the requests that are cut from them (`chv_http`).
-use crate::answers::{allocated, beside};
+use crate::answers::allocated;
 use crate::escapes::{bytes_of, shown};
 use crate::words::{cut, found};
-use chv_defs::{Request, Took};
+use chv_defs::{Request, Took, beside};
 use chv_http::Parser;
 use std::alloc::{AllocError, Global};
 use std::io;

@@ -180,9 +180,9 @@ impl<D: Disk> Control<D> {
         self.machine.stopped
     }
 
-    #[tactic(auto, using(crate::proofs::Settled::is_settled))]
     /// The history. It is legal and leads to the machine's state, no caller's latest answer is Holding, and it keeps within
     /// the limits of the book.
+    #[tactic(auto, using(crate::proofs::Settled::is_settled))]
     pub fn history(&self) -> &[ControlEntry]
         ensures value { result.now ≡ self.now.history }
         ensures legal { IsLegal (shelf_of (sectors_of D.sector_count) self.now.disks) self.now.history self.now.machine }

@@ -1,5 +1,5 @@
 // An entry is made, and what its call leaves.
-ghost use Rattle.std.specs.Prelude.{◌≡◌, true, Ok, IsErr, IfOk, OnOk, OnErr};
+ghost use Rattle.std.specs.Prelude.{◌≡◌, true, IfOk, OnOk, OnErr};
 ghost use Rattle.chv_defs.specs.Desks.{can_have, is_session_call};
 ghost use Rattle.chv_defs.specs.Machine.{IsWellFormed};
 ghost use Rattle.chv_defs.specs.ApiStep.{after, reply_to};
@@ -9,7 +9,7 @@ ghost use Rattle.chv_control.specs.Control.{entry_of};
 
 use crate::book::payload_of;
 use chv_ctl_api::{api_leave, api_reply};
-use chv_defs::{ControlCall, ControlEntry, ControlReply, Machine, OnShelf, Row, copy_of};
+use chv_defs::{ControlCall, ControlEntry, ControlReply, Machine, OnShelf, Row, beside, copy_of};
 use std::alloc::{AllocError, Global};
 
 /// An entry that is not entered yet, its reply once more, and its payload in bytes.
@@ -18,17 +18,6 @@ pub struct Made {
     pub entry: ControlEntry,
     pub reply: ControlReply,
     pub added: u64,
-}
-
-/// A value, where there is one, beside one that is kept.
-fn beside<T, K: Drop>(value: Result<T, AllocError>, kept: K) -> Result<(T, K), AllocError>
-    ensures ok { IfOk result (λ both. (value ≡ Ok both.0) × (both.1 ≡ kept)) }
-    ensures err { OnErr result (IsErr value) }
-{
-    match value {
-        Ok(value) => Ok((value, kept)),
-        Err(error) => Err(error),
-    }
 }
 
 /// The entry of a call that is answered so.

@@ -20,7 +20,6 @@ pub fn refuse(machine: &Machine, rule: Rule) -> ControlReply
 }
 
 /// The answer to a Begin. A machine that is not booted is deleted at once.
-
 pub fn answer_begin(machine: &Machine, shelf: &Row<OnShelf>, goal: Goal) -> ControlReply
     requires { IsWellFormed machine.now }
     ensures { result ≡ reply_to shelf.now machine.now (Begin goal) }

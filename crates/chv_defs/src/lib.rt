@@ -9,6 +9,7 @@ mod control;
 mod desk;
 mod exact;
 mod info;
+mod kept;
 mod machine;
 mod name;
 mod path;
@@ -36,6 +37,7 @@ pub use control::{
 pub use desk::{Desk, Stopped};
 pub use exact::{Exact, copy_of};
 pub use info::{DeviceInfo, Info, ShownState, ZoneInfo};
+pub use kept::beside;
 pub use machine::{Life, Machine, Region};
 pub use name::{Name, is_name};
 pub use path::last_component;

@@ -20,11 +20,15 @@ pub enum Rule {
     NotJson,
     /// A needed key is absent.
     Missing,
+    /// A value is no object.
     NotObject,
+    /// A value is no list.
     NotList,
+    /// A value is no text.
     NotText,
     /// A value is no whole number from 0 to 2^64 - 1.
     NotWhole,
+    /// A value is neither `true` nor `false`.
     NotBool,
     /// The last component of a snapshot's URL is no name.
     BadName,
@@ -34,40 +38,75 @@ pub enum Rule {
     AlreadyCreated,
     /// A pause, shutdown or delete is under way.
     Held,
+    /// The machine is not booted.
     NotBooted,
+    /// The machine is booted.
     AlreadyBooted,
+    /// The machine does not run.
     NotRunning,
+    /// The machine is not paused.
     NotPaused,
+    /// `boot_vcpus` is 0.
     BootZero,
+    /// `boot_vcpus` is above `max_vcpus`.
     BootAboveMax,
+    /// `max_vcpus` is above 16.
     VcpusAboveLimit,
+    /// There are zones, and the memory's own `size` is not 0.
     ZonesNeedSizeZero,
+    /// There are zones, and the memory's own `hotplug_size` or `hotplugged_size` is not 0.
     ZonesOwnHotplug,
+    /// There are no zones and `size` is 0, or a zone's `size` is 0.
     SizeZero,
+    /// There are more than 8 zones.
     TooManyZones,
+    /// A zone's id is no identifier of at most 24 bytes.
     ZoneIdBad,
+    /// Two zones have one id.
     ZoneIdTwice,
+    /// A `size`, `hotplug_size` or `hotplugged_size` is no multiple of 2 MiB.
     SizeUnaligned,
+    /// `size` and `hotplug_size` of a zone sum above 64 GiB.
     ZoneTooLarge,
+    /// A `hotplugged_size` is above its `hotplug_size`.
     HotpluggedAbove,
+    /// A configured zone grows, and the method is Acpi.
     WayForZones,
+    /// There are no zones, `hotplug_size` is above 0, and the method is Acpi.
     WayAcpi,
+    /// No disk that stands by has the name of a configured one, or it has another number of sectors in a restore.
     DiskUnknown,
+    /// Two disks have one name.
     DiskTwice,
+    /// An id that a disk is given is no identifier.
     DeviceIdBad,
+    /// Two devices have one id, memory devices included.
     DeviceIdTwice,
+    /// `num_queues` is not 1, or `queue_size` is no power of two from 1 to 1,024.
     QueueShape,
+    /// Growing zones and disks are more than 31.
     TooManyDevices,
+    /// `desired_vcpus` is 0 or above `max_vcpus`.
     VcpuCount,
+    /// `desired_vcpus` is given while a vCPU's removal is asked.
     RemovalPending,
+    /// `desired_ram` is given for the whole machine, and there are configured zones.
     ByZone,
+    /// No configured zone has that id.
     ZoneUnknown,
+    /// `desired_ram` is outside the zone's range, or no multiple of 2 MiB.
     RamRange,
+    /// No device has that id.
     DeviceUnknown,
+    /// The device is a memory device, which is not removed.
     DeviceFixed,
+    /// The device's removal was already asked.
     DeviceLeaving,
+    /// The 31 slots are used, or would be at boot.
     SlotsFull,
+    /// The store of snapshots failed in this call.
     VaultFault,
+    /// There is no snapshot of that name.
     ImageMissing,
     /// The bytes are no image; the first byte of the field that fails.
     BadImage(u64),
@@ -78,14 +117,23 @@ pub enum Rule {
 /// Why a line of a script, a scenario or a trace is refused.
 #[derive(Clone, Copy, PartialEq, Eq)]
 pub enum Reason {
+    /// A line begins with no word of the format.
     UnknownWord,
+    /// A line has too few fields or too many.
     FieldCount,
+    /// A field is no register.
     BadRegister,
+    /// A field is no width of an access.
     BadWidth,
+    /// A field is no decimal number of its range.
     BadNumber,
+    /// A field is no hexadecimal number of its range, or no pairs of hexadecimal digits.
     BadHex,
+    /// A field is no label or name.
     BadName,
+    /// No line of the section has that label.
     UnknownLabel,
+    /// Two lines of a section have one label.
     LabelTwice,
     /// The text does not end in a line feed.
     Unended,

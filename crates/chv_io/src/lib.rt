@@ -23,7 +23,7 @@ pub use listener::Listener;
 pub use mem_link::MemLink;
 pub use mem_listener::MemListener;
 pub use mem_sink::MemSink;
-pub use mem_source::MemSource;
+pub use mem_source::{MemSource, copy_front};
 pub use sink::Sink;
 pub use source::Source;
 pub use std_sink::StdSink;

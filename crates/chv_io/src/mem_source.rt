@@ -28,8 +28,9 @@ impl Model for MemSource {
     ghost invariant = { λ s. s.taken ≤ length s.bytes };
 }
 
-/// Copies what fits to the front of a buffer, and says how many bytes that is.
-pub(crate) fn copy_front(from: &[u8], to: &mut [u8]) -> usize
+/// Copies what fits to the front of a buffer, and says how many bytes that is: what a `take` of a source that holds its
+/// bytes does. Takes no memory.
+pub fn copy_front(from: &[u8], to: &mut [u8]) -> usize
     ensures count { result ≡ min (length to.old) (length from.now) }
     ensures copied { to.new ≡ take result from.now ++ drop result to.old }
 {

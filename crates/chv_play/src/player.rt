@@ -48,11 +48,10 @@ fn logs_of(alloc: Global, seats: Vec<Seat>) -> Result<Row<SessionTrace>, AllocEr
     requires { length seats.items ≤ 16 }
     ensures { IfOk result (λ logs. logs ≡ logs_at 1 seats.items) }
 {
-    let mut seats = seats;
     let mut logs = Row::empty(alloc);
     let mut session: u8 = 1;
-    while !seats.is_empty() {
-        let log = log_of(seats.remove(0));
+    for seat in seats {
+        let log = log_of(seat);
         logs.push(SessionTrace { session, log })?;
         session += 1;
     }

@@ -1,10 +1,10 @@
 // The stream of a session that is played.
-ghost use Rattle.std.specs.Prelude.{◌≡◌, ◌<◌, ◌-◌, ◌^◌, ◌++◌, length, take, drop, min, false, None, Some, IsOk, IfOk};
+ghost use Rattle.std.specs.Prelude.{◌≡◌, ◌<◌, ◌-◌, ◌^◌, length, drop, min, false, None, Some, IsOk, IfOk};
 ghost use Rattle.std.specs.Io.{ReadsAtMost};
 ghost use Rattle.chv_defs.specs.Outside.{Takes, Puts, HasCause};
 ghost use Rattle.chv_defs.specs.Links.{ReadLeaves, WriteLeaves, Fills};
 
-use chv_io::{Failed, Link, Sink, Source};
+use chv_io::{Failed, Link, Sink, Source, copy_front};
 use std::marker::Model;
 
 /// The connection of a session that is played: the bytes of its requests are there from the start, a read gives as much
@@ -25,16 +25,6 @@ impl Model for StreamLink {
     ghost view = { λ s. record { left = drop s.taken s.bytes.items; closed = s.is_closed } };
 
     ghost invariant = { λ s. s.taken ≤ vec_len s.bytes };
-}
-
-/// Copies what fits to the front of a buffer, and says how many bytes that is.
-fn copy_front(from: &[u8], to: &mut [u8]) -> usize
-    ensures count { result ≡ min (length to.old) (length from.now) }
-    ensures copied { to.new ≡ take result from.now ++ drop result to.old }
-{
-    let count = to.len().min(from.len());
-    to[..count].copy_from_slice(&from[..count]);
-    count
 }
 
 impl StreamLink {

@@ -48,7 +48,7 @@ pub(crate) fn is_word(field: &[u8], word: &str) -> bool
 fn is_route_letter(byte: u8) -> bool
     ensures { result ≡ is_route_byte byte }
 {
-    (97 <= byte && byte <= 122) || (48 <= byte && byte <= 57) || byte == b'.' || byte == b'-'
+    (b'a' <= byte && byte <= b'z') || (b'0' <= byte && byte <= b'9') || byte == b'.' || byte == b'-'
 }
 
 fn are_route_letters(text: &[u8]) -> bool

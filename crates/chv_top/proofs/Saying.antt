@@ -21,7 +21,7 @@ use Rattle.chv_top.specs.Outcome.{IsComplete, IsFull, IsInput, IsOwed, IsPartOfO
 use Rattle.chv_top.specs.Says.{IsPlain, IsScene, Reports, ReportsFull, ReportsTrace, Says, StopsBy, Tells, Writes}
 use Rattle.chv_control.specs.Shelf as control
 use Rattle.chv_scene.specs.declared.scenario.SceneFault.{SceneFault}
-use Rattle.chv_top.specs.Given.{as_given, handed_in, shelf_of}
+use Rattle.chv_top.specs.Given.{as_given, handed_in}
 use Rattle.chv_top.specs.Taken.{HasRead}
 use Rattle.chv_top.specs.declared.status.Status.{Status}
 use Rattle.chv_top.specs.declared.status.Status.TheVariants as status
@@ -218,7 +218,7 @@ handed_given [] = refl
 handed_given (disk ∷ disks) = ap (λ rest. disk ∷ rest) (handed_given disks)
 
 -- they stand by as these disks do
-pub shelf_given : {D : Type 0} (count : D → ℕ) (disks : List (List ℕ × D)) → control.shelf_of (control.sectors_of count) (as_given disks) ≡ shelf_of count disks
+pub shelf_given : {D : Type 0} (count : D → ℕ) (disks : List (List ℕ × D)) → control.shelf_of (control.sectors_of count) (as_given disks) ≡ control.shelf_of count disks
 shelf_given count [] = refl
 shelf_given count (disk ∷ disks) = ap (λ rest. record { name = disk.0; sectors = count disk.1 } ∷ rest) (shelf_given count disks)
 

@@ -1,12 +1,7 @@
 -- Disks that are handed in, as the control value has them.
 use Rattle.std.specs.Prelude.{ℕ, List, [], ◌∷◌, map}
-use Rattle.chv_defs.specs.declared.scene.OnShelf.{OnShelf}
 use Rattle.chv_store.specs.declared.any_disk.AnyDisk.{AnyDisk}
 use Rattle.chv_store.specs.declared.any_disk.AnyDisk.TheVariants.{Given, Made}
-
--- disks that stand by: each one's name, and its number of sectors
-abbrev pub shelf_of : {D : Type 0} → (D → ℕ) → List (List ℕ × D) → List OnShelf
-shelf_of count disks = map (λ disk. record { name = disk.0; sectors = count disk.1 }) disks
 
 -- each disk as one that was handed in, with its name
 abbrev pub as_given : {D : Type 0} → List (List ℕ × D) → List (List ℕ × AnyDisk D)

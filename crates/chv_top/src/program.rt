@@ -4,7 +4,7 @@ ghost use Rattle.chv_defs.specs.declared.scene.OnShelf.{OnShelf};
 ghost use Rattle.chv_defs.specs.declared.bank.Full as defs_full;
 ghost use Rattle.chv_defs.specs.declared.trace.Trace as defs_trace;
 ghost use Rattle.chv_defs.specs.Schedule.{schedule};
-ghost use Rattle.chv_top.specs.Given.{shelf_of};
+ghost use Rattle.chv_control.specs.Shelf.{shelf_of};
 ghost use Rattle.chv_play.specs.Played.{Comes};
 ghost use Rattle.chv_top.specs.Outcome.{TakesAtMost};
 ghost use Rattle.chv_top.specs.Says.{IsPlain, IsScene, Reports, ReportsFull, ReportsTrace, Says, StopsBy, Tells};

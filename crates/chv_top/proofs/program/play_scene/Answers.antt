@@ -3,7 +3,7 @@ use Rattle.chv_defs.specs.ScenarioText.{Sessions}
 use Rattle.chv_defs.specs.Schedule.{schedule}
 use Rattle.chv_defs.specs.declared.scene.OnShelf.{OnShelf}
 use Rattle.chv_control.specs.Shelf as control
-use Rattle.chv_top.specs.Given.{handed_in, shelf_of}
+use Rattle.chv_top.specs.Given.{handed_in}
 use Rattle.chv_top.specs.Says.{Reports}
 use Rattle.chv_top.proofs.Saying.{comes_plain, handed_given, none_is_part, shelf_given}
 use Rattle.chv_top.proofs.program.play_scene.Goals as goal
@@ -17,7 +17,7 @@ report-requires g c = record { plain = comes_plain _ _ _ _ c.play-played.ensures
 pub returns-clause-reports : goal.returns-clause-reports
 returns-clause-reports g c =
     let start = control.shelf_of (control.sectors_of g.D.Disk.sector_count) c.in-Ok.both.0.items in
-    let shelf : start ≡ shelf_of g.D.Disk.sector_count c.args.disks.items =
+    let shelf : start ≡ control.shelf_of g.D.Disk.sector_count c.args.disks.items =
     ap (λ disks. control.shelf_of (control.sectors_of g.D.Disk.sector_count) disks) c.in-Ok.ensures.ok.0 ∙ shelf_given g.D.Disk.sector_count c.args.disks.items in
     let reported = c.report.ensures.reports start (schedule start c.as_slice-sessions.result.now) c.play-played.ensures.comes in
     let of_sessions = subst (λ (sessions : Sessions). Reports start (schedule start sessions) (g.K.Sink.written c.args.out.now) (g.K.Sink.written c.report.new.out) (g.K.Sink.write_faults c.args.out.now) (g.K.Sink.write_faults c.report.new.out) c.report.result) c.as_slice-sessions.ensures reported in
