@@ -1,8 +1,11 @@
-// A full book, and the laws.
+// A full book, what a machine shows, and the laws.
+ghost use Rattle.std.specs.Prelude.{◌≡◌, true, IfOk};
+ghost use Rattle.chv_defs.specs.declared.machine.Life.TheVariants as life;
+
 use chv_control::{Control, Inner, Start, refusals_change_nothing};
 use chv_ctl_api::{answers_fit, refused_calls_change_nothing, states_stay_well_formed};
-use chv_defs::{BookId, ControlCall, ControlReply, Full, Row};
-use chv_samples::name;
+use chv_defs::{BookId, ControlCall, ControlReply, Full, Row, ShownState};
+use chv_samples::{name, plain_config};
 use chv_store::{AnyDisk, MemDisk};
 use std::alloc::{AllocError, Global};
 use std::test::Fail;
@@ -69,5 +72,43 @@ fn a_full_book_keeps_a_place_for_the_stop(rt: HostRuntime) -> Result<(), Fail> {
     assert!(rt; fills_up(&mut control)?);
     assert!(rt; falls_into(control, 1_048_576));
     laws();
+    Ok(())
+}
+
+// Whether session 1 creates a plain machine.
+fn creates(alloc: Global, control: &mut Control<MemDisk>) -> Result<bool, AllocError>
+    ensures { IfOk result (λ done. done ≡ true → control.new.machine.life ≡ life.Created) }
+{
+    let create = ControlCall::Create(plain_config(alloc));
+    let answer = control.apply(1, &create);
+    drop(create);
+    Ok(matches!(answer?, Ok(ControlReply::Done)))
+}
+
+// Whether a plain machine is shown as created.
+fn shows(alloc: Global, control: &Control<MemDisk>) -> Result<bool, AllocError>
+    requires { control.now.machine.life ≡ life.Created }
+{
+    let info = control.shown()?;
+    let plain = plain_config(alloc);
+    let is_so = info.config == plain
+        && info.state == ShownState::Created
+        && info.actual_size == 536_870_912;
+    drop(plain);
+    drop(info);
+    Ok(is_so)
+}
+
+// Whether a machine that was created is shown, and that asks for no entry.
+fn creates_and_shows(alloc: Global, control: &mut Control<MemDisk>) -> Result<bool, AllocError> {
+    Ok(creates(alloc, control)? && shows(alloc, control)? && control.history().len() == 1)
+}
+
+#[test]
+fn a_machine_is_shown(rt: HostRuntime) -> Result<(), Fail> {
+    let mut control = fresh(rt.alloc())?;
+    let came = creates_and_shows(rt.alloc(), &mut control);
+    drop(control);
+    assert!(rt; came?);
     Ok(())
 }

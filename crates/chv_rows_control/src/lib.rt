@@ -6,6 +6,8 @@ mod addr;
 #[cfg(test)]
 mod control;
 #[cfg(test)]
+mod ctl_api;
+#[cfg(test)]
 mod io;
 #[cfg(test)]
 mod session;
