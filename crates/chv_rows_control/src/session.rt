@@ -2,7 +2,9 @@ ghost use Rattle.std.specs.Prelude.{◌≡◌, ◌++◌, ◌∷◌, [], true, fa
 ghost use Rattle.chv_defs.specs.Machine.{IsSession};
 ghost use Rattle.chv_defs.specs.Desks.{can_have, is_held};
 
-use chv_defs::{Bytes, ControlCall, ControlReply, Desk, SessionEnd, SessionLog, Stopped, copy_of};
+use chv_defs::{
+    Bytes, ControlCall, ControlReply, Desk, SessionEnd, SessionLog, Stopped, beside, copy_of,
+};
 use chv_io::{Link, MemLink};
 use chv_samples::numbers;
 use chv_session::{Next, Session};
@@ -91,11 +93,11 @@ impl Desk<()> for TestDesk {
     ) -> Result<Result<ControlReply, Stopped>, AllocError> {
         match self.reply_to(call) {
             Some(reply) => {
-                self.keep(call, &reply)?;
+                let ((), reply) = beside(self.keep(call, &reply), reply)?;
                 Ok(Ok(reply))
             }
             None => {
-                self.refused = Some(copy_of(call)?);
+                drop(self.refused.replace(copy_of(call)?));
                 Ok(Err(Stopped))
             }
         }
@@ -184,12 +186,15 @@ fn left_over(
         stops_behind,
         refused: None,
     };
-    let log = log_of(alloc, link, &mut desk, turns)?;
+    let log = log_of(alloc, link, &mut desk, turns);
+    let calls = desk.made.len();
+    drop(desk);
+    let (put, log) = beside(Vec::from_slice(alloc, link.written()), log?)?;
     Ok(Left {
         log,
-        put: Vec::from_slice(alloc, link.written())?,
+        put,
         is_closed: link.is_closed(),
-        calls: desk.made.len(),
+        calls,
     })
 }
 

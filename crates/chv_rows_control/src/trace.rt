@@ -171,27 +171,68 @@ fn no_trace(alloc: Global) -> Trace
     }
 }
 
+// The entries above, and a session that took two bytes.
+fn fill_all(alloc: Global, trace: &mut Trace) -> Result<(), AllocError>
+    ensures disks { trace.new.disks ≡ trace.old.disks }
+    ensures vcpus { trace.new.vcpus ≡ trace.old.vcpus }
+    ensures banks { trace.new.banks ≡ trace.old.banks }
+{
+    push_entries(alloc, &mut trace.control)?;
+    push_session(alloc, &mut trace.sessions, 2)
+}
+
+// A session that made a ping and took so many bytes.
+fn fill_ping(alloc: Global, trace: &mut Trace, asked: usize) -> Result<(), AllocError>
+    ensures disks { trace.new.disks ≡ trace.old.disks }
+    ensures vcpus { trace.new.vcpus ≡ trace.old.vcpus }
+    ensures banks { trace.new.banks ≡ trace.old.banks }
+{
+    push_call(&mut trace.control, ControlCall::Ping)?;
+    push_call(&mut trace.control, ControlCall::Bye)?;
+    push_session(alloc, &mut trace.sessions, asked)
+}
+
+// Whether a trace is printed so.
+fn prints(alloc: Global, trace: &Trace, text: &str) -> Result<bool, AllocError>
+    requires disks { trace.now.disks ≡ [] }
+    requires vcpus { trace.now.vcpus ≡ [] }
+    requires banks { trace.now.banks ≡ [] }
+{
+    let mut out = MemSink::new(alloc, 2000, numbers(alloc, &[])?)?;
+    Ok(print(alloc, trace, &mut out).is_ok() && out.written() == text.as_bytes())
+}
+
 // Whether the trace of the entries above is printed so.
 fn is_printed(alloc: Global, text: &str) -> Result<bool, AllocError> {
     let mut trace = no_trace(alloc);
-    push_entries(alloc, &mut trace.control)?;
-    push_session(alloc, &mut trace.sessions, 2)?;
-    let mut out = MemSink::new(alloc, 2000, numbers(alloc, &[])?)?;
-    Ok(print(alloc, &trace, &mut out).is_ok() && out.written() == text.as_bytes())
+    let filled = fill_all(alloc, &mut trace);
+    let printed = prints(alloc, &trace, text);
+    drop(trace);
+    filled?;
+    printed
 }
 
 /// How printing ends, and how many bytes are written.
 type Printed = (Result<(), PrintError>, usize);
 
-// What comes of the trace of a session that made a ping and took so many bytes. The call of the output with this number
-// fails.
+// What comes of printing a trace where the call of the output with this number fails.
+fn printed(alloc: Global, trace: &Trace, failing: u64) -> Result<Printed, AllocError>
+    requires disks { trace.now.disks ≡ [] }
+    requires vcpus { trace.now.vcpus ≡ [] }
+    requires banks { trace.now.banks ≡ [] }
+{
+    let mut out = MemSink::new(alloc, 200_000, numbers(alloc, &[failing])?)?;
+    Ok((print(alloc, trace, &mut out), out.written().len()))
+}
+
+// What comes of the trace of a session that made a ping and took so many bytes.
 fn ping(alloc: Global, asked: usize, failing: u64) -> Result<Printed, AllocError> {
     let mut trace = no_trace(alloc);
-    push_call(&mut trace.control, ControlCall::Ping)?;
-    push_call(&mut trace.control, ControlCall::Bye)?;
-    push_session(alloc, &mut trace.sessions, asked)?;
-    let mut out = MemSink::new(alloc, 200_000, numbers(alloc, &[failing])?)?;
-    Ok((print(alloc, &trace, &mut out), out.written().len()))
+    let filled = fill_ping(alloc, &mut trace, asked);
+    let printed = printed(alloc, &trace, failing);
+    drop(trace);
+    filled?;
+    printed
 }
 
 // Whether an output that fails has a first part.
