@@ -14,7 +14,7 @@ use Rattle.chv_defs.specs.declared.config.DiskConfig.{DiskConfig}
 use Rattle.chv_defs.specs.declared.config.VmConfig.{VmConfig}
 use Rattle.chv_defs.specs.declared.context.DeviceKind.{DeviceKind}
 use Rattle.chv_defs.specs.declared.context.DeviceKind.TheVariants.{Disk, Memory}
-use Rattle.chv_defs.specs.ConfigRules.{has_text, has_twice, is_free, lowest_free, default_id, given_ids, with_ids, id_beside, memory_device_id, memory_device_ids, memory_devices, disk_devices, grows, first_broken, cpu_rules, memory_rules, device_rules, disk_unknown, disk_twice, device_id_bad, device_id_twice, queue_shape, too_many_devices, verdict, ids_of, zones_in_effect, devices_of, device_ids, checked_of}
+use Rattle.chv_defs.specs.ConfigRules.{has_text, has_twice, lowest_free, default_id, given_ids, with_ids, id_beside, memory_device_id, memory_device_ids, memory_devices, disk_devices, grows, first_broken, cpu_rules, memory_rules, device_rules, disk_unknown, disk_twice, device_id_bad, device_id_twice, queue_shape, too_many_devices, verdict, ids_of, zones_in_effect, devices_of, device_ids, checked_of}
 use Rattle.chv_config.proofs.Twice.{bytes_eq_comm}
 use Rattle.chv_config.proofs.DefaultIds.{lowest_free-is}
 
@@ -44,11 +44,11 @@ given_ids-is (disk ∷ disks) = by disk.id (given_ids-is disks)
     by None e = e
     by (Some id) e = ap (λ rest. id ∷ rest) e
 
-or_false_parts : (a b : Bool) → (a || b) ≡ false → (a ≡ false) × (b ≡ false)
+pub or_false_parts : (a b : Bool) → (a || b) ≡ false → (a ≡ false) × (b ≡ false)
 or_false_parts true b h = cc
 or_false_parts false b h = (refl, h)
 
-or_false_both : (a b : Bool) → a ≡ false → b ≡ false → (a || b) ≡ false
+pub or_false_both : (a b : Bool) → a ≡ false → b ≡ false → (a || b) ≡ false
 or_false_both true b h g = cc
 or_false_both false b h g = g
 
@@ -88,7 +88,7 @@ among-snoc xs ys x among q h =
 among-more : (xs ys : List (List ℕ)) (x : List ℕ) → AreAmong xs ys → AreAmong xs (ys ++ x ∷ [])
 among-more xs ys x among q h = list_any-append (bytes_eq q) ys (x ∷ []) ∙ or_intro_left (has_text ys q) (has_text (x ∷ []) q) (among q h)
 
-not_true : (b : Bool) → not b ≡ true → b ≡ false
+pub not_true : (b : Bool) → not b ≡ true → b ≡ false
 not_true true h = cc
 not_true false h = refl
 
@@ -119,7 +119,7 @@ named-distinct before ids (None ∷ options) known given h small =
 
 -- ---- what holds where no rule is broken
 
-broken_none : (b : Bool) (rule : Rule) (rest : List (Bool × Rule)) → first_broken ((b, rule) ∷ rest) ≡ None → (b ≡ false) × (first_broken rest ≡ None)
+pub broken_none : (b : Bool) (rule : Rule) (rest : List (Bool × Rule)) → first_broken ((b, rule) ∷ rest) ≡ None → (b ≡ false) × (first_broken rest ≡ None)
 broken_none true rule rest h = cc
 broken_none false rule rest h = (refl, h)
 
@@ -170,7 +170,7 @@ length-given ids disks =
     ∙ length-named ids (map (λ disk. disk.id) disks)
     ∙ length-map disks (λ disk. disk.id)
 
-ltb_false : (a b : ℕ) → nat_lt a b ≡ false → b ≤ a
+pub ltb_false : (a b : ℕ) → nat_lt a b ≡ false → b ≤ a
 ltb_false a b h = grind (arith, nat_tests)
 
 -- at most 31 devices stand

@@ -1,5 +1,5 @@
 -- What a call leaves is well formed.
-use Rattle.std.proofs.Common.{◌≡◌, ◌≤◌, ◌<◌, ◌+◌, ◌*◌, ◌↔◌, ℕ, Bool, true, false, List, [], ◌∷◌, length, if◌then◌else◌, nat_lt, ◌==◌, None, Some, Option, refl, subst, arith}
+use Rattle.std.proofs.Common.{◌≡◌, ◌≤◌, ◌<◌, ◌+◌, ◌*◌, ◌^◌, ◌↔◌, ℕ, Bool, true, false, List, [], ◌∷◌, ◌++◌, length, if◌then◌else◌, nat_lt, ◌==◌, None, Some, Option, refl, subst, arith}
 use Rattle.std.specs.Prelude.{sum_by, not, is_some, unwrap_or, ◌||◌}
 use Rattle.std.specs.List.{list_any}
 use Rattle.std.proofs.lemmas.Bool.Decides.{nat_tests}
@@ -10,19 +10,22 @@ use Rattle.chv_defs.specs.declared.config.Checked.{Checked}
 use Rattle.chv_defs.specs.declared.config.VmConfig.{VmConfig}
 use Rattle.chv_defs.specs.declared.config.MemConfig.{MemConfig}
 use Rattle.chv_defs.specs.declared.config.ZoneConfig.{ZoneConfig}
+use Rattle.chv_defs.specs.declared.config.DiskConfig.{DiskConfig}
 use Rattle.chv_defs.specs.declared.scene.OnShelf.{OnShelf}
 use Rattle.chv_defs.specs.declared.rule.Rule.{Rule}
-use Rattle.chv_defs.specs.declared.rule.Rule.TheVariants.{AlreadyCreated}
+use Rattle.chv_defs.specs.declared.rule.Rule.TheVariants.{AlreadyCreated, NotCreated, SlotsFull}
 use Rattle.chv_defs.specs.declared.control.Goal.TheVariants.{Delete}
 use Rattle.chv_defs.specs.declared.control.ControlCall.{ControlCall}
 use Rattle.chv_defs.specs.declared.control.ControlCall.TheVariants as call
 use Rattle.chv_defs.specs.declared.control.ControlReply.{ControlReply}
 use Rattle.chv_defs.specs.declared.control.ControlReply.TheVariants as reply
-use Rattle.chv_defs.specs.Machine.{AreSessionsAbove, HasSmallZones, IsWellFormed}
-use Rattle.chv_defs.specs.ApiStep.{after, is_uncreated, names_of, refusal_of, reply_to, rules_of, with_number}
+use Rattle.chv_defs.specs.Machine.{AreSessionsAbove, HasChecked, IsWellFormed}
+use Rattle.chv_defs.specs.ApiStep.{after, has_full_slots, has_id, is_uncreated, names_of, now_of, refusal_of, reply_to, rules_of, with_new_disk, with_number, without_disk}
 use Rattle.chv_defs.specs.ControlStep.{MayCall}
-use Rattle.chv_defs.specs.ConfigRules.{checked_of, config_rules, has_zones, own_zone, zones_in_effect, verdict}
-use Rattle.chv_ctl_api.proofs.Verdicts.{none-from_done, none-broken}
+use Rattle.chv_defs.specs.ConfigRules.{IsChecked, checked_of, config_rules, first_broken, further_disk_rules, has_zones, own_zone, zones_in_effect, verdict}
+use Rattle.chv_defs.specs.DefaultConfig.{default_config}
+use Rattle.chv_config.proofs.Recheck.{IsChecked-checked_of, IsChecked-filter, IsChecked-parts, IsChecked-with_disk}
+use Rattle.chv_ctl_api.proofs.Verdicts.{first_broken-parts, none-from_done, none-broken}
 
 choose : (P : List ℕ → Type 0) (b c : Bool) (x y z : List ℕ) → (b ≡ true → P x) → (b ≡ false → c ≡ true → P y) → (b ≡ false → c ≡ false → P z) → P (if b then x else (if c then y else z))
 choose P true c x y z p q r = p refl
@@ -65,7 +68,7 @@ either memory true few = few
 either memory false few = omega arith
 
 -- a configuration that keeps the rules has small zones
-small_checked : (names : List (List ℕ)) (config : VmConfig) → verdict names config ≡ None → HasSmallZones (Some (checked_of config))
+small_checked : (names : List (List ℕ)) (config : VmConfig) → verdict names config ≡ None → sum_by (λ (zone : ZoneConfig). zone.size) (checked_of config).zones < 2 ^ 64
 small_checked names config none =
     let broken = none-broken (config_rules names config) none in
     few_small (zones_in_effect config.memory) (either config.memory (has_zones config.memory) (at_most _ _ broken.1.1.1.1.1.1.0)) broken.1.1.1.1.1.1.1.1.1.1.0
@@ -73,13 +76,44 @@ small_checked names config none =
     at_most : (a b : ℕ) → nat_lt a b ≡ false → b ≤ a
     at_most a b e = grind (arith, nat_tests)
 
+-- the sizes of the zones of a checked configuration, in bytes, sum below 2^64
+small_zones : (now : Checked) → IsChecked now → sum_by (λ (zone : ZoneConfig). zone.size) now.zones < 2 ^ 64
+small_zones now checked =
+    let parts = IsChecked-parts now checked in
+    subst (λ (c : Checked). sum_by (λ (zone : ZoneConfig). zone.size) c.zones < 2 ^ 64) parts.1 (small_checked checked.names checked.config parts.0)
+
+-- so do those of the configuration that is there
+pub small_there : (config : Option Checked) (now : Checked) → config ≡ Some now → HasChecked config → sum_by (λ (zone : ZoneConfig). zone.size) now.zones < 2 ^ 64
+small_there config now there checked = small_zones now (subst (λ (c : Option Checked). HasChecked c) there checked)
+
 -- where there is a machine, its life is not None
 some_left : (m : Machine) (now : Checked) → IsWellFormed m → is_uncreated m ≡ false → (m.life ≡ life.None) ↔ (Some now ≡ None)
 some_left m now formed some = (λ l. absurd (let h : not (is_some {T = Checked} None) ≡ false = subst (λ (c : Option Checked). not (is_some c) ≡ false) (formed.life_and_config.0 l) some in cc), λ e. absurd (cc))
 
-small_now : (c : Option Checked) (other : Checked) → not (is_some c) ≡ false → HasSmallZones c → sum_by (λ (zone : ZoneConfig). zone.size) (unwrap_or c other).zones < 18446744073709551616
-small_now None other some small = cc
-small_now (Some now) other some small = small
+-- a configuration that is there, with a further disk
+checked_with : (config : Option Checked) (other : Checked) (names : List (List ℕ)) (disk : DiskConfig) → not (is_some config) ≡ false → HasChecked config → first_broken (further_disk_rules names (unwrap_or config other) disk) ≡ None → has_full_slots (unwrap_or config other) ≡ false → IsChecked (with_new_disk (unwrap_or config other) disk)
+checked_with None other names disk some checked none free = cc
+checked_with (Some now) other names disk some checked none free = IsChecked-with_disk names now disk checked none free
+
+-- a configuration that is there, without a disk
+checked_without : (config : Option Checked) (other : Checked) (id : List ℕ) → not (is_some config) ≡ false → HasChecked config → IsChecked (without_disk (unwrap_or config other) id)
+checked_without None other id some checked = cc
+checked_without (Some now) other id some checked = IsChecked-filter now (λ (disk : DiskConfig). not (has_id id disk)) checked
+
+-- a call that no rule refuses, where a machine is asked for first
+created_first : (m : Machine) (rows : List (Bool × Rule)) → first_broken ((is_uncreated m, NotCreated) ∷ rows) ≡ None → (is_uncreated m ≡ false) × (first_broken rows ≡ None)
+created_first m rows none =
+    let parts = first_broken-parts ((is_uncreated m, NotCreated) ∷ []) rows none in
+    ((none-broken ((is_uncreated m, NotCreated) ∷ []) parts.0).0, parts.1)
+
+-- what an AddDisk leaves
+checked_added : (shelf : List OnShelf) (m : Machine) (disk : DiskConfig) → HasChecked m.config → refusal_of shelf m (call.AddDisk disk) ≡ None → IsChecked (with_new_disk (now_of m) disk)
+checked_added shelf m disk checked none =
+    let rules = further_disk_rules (names_of shelf) (now_of m) disk in
+    let slots : List (Bool × Rule) = (has_full_slots (now_of m), SlotsFull) ∷ [] in
+    let created = created_first m (rules ++ slots) none in
+    let parts = first_broken-parts rules slots created.1 in
+    checked_with m.config (checked_of default_config) (names_of shelf) disk created.0 checked parts.0 (none-broken slots parts.1).0
 
 behind_created : (b : Bool) (found : Option Rule) → (if b then Some AlreadyCreated else found) ≡ None → found ≡ None
 behind_created true found e = cc
@@ -89,37 +123,37 @@ kept : (shelf : List OnShelf) (m : Machine) (caller : ℕ) (c : ControlCall) (r 
 kept shelf m caller (call.Create config) reply.Done e formed may = record {
   life_and_config = (λ x. absurd (cc), λ x. absurd (cc));
   unbooted = tt;
-  small = small_checked (names_of shelf) config (behind_created (is_some m.config) (verdict (names_of shelf) config) (none-from_done (refusal_of shelf m (call.Create config)) e));
+  checked = IsChecked-checked_of (names_of shelf) config (behind_created (is_some m.config) (verdict (names_of shelf) config) (none-from_done (refusal_of shelf m (call.Create config)) e));
   sessions = formed.sessions;
 }
 kept shelf m caller (call.Begin Delete) reply.Done e formed may = record {
   life_and_config = (λ x. refl, λ x. refl);
   unbooted = tt;
-  small = tt;
+  checked = tt;
   sessions = formed.sessions;
 }
 kept shelf m caller (call.AddDisk disk) reply.Done e formed may = record {
   life_and_config = some_left m _ formed ((none-broken (rules_of shelf m (call.AddDisk disk)) (none-from_done (refusal_of shelf m (call.AddDisk disk)) e)).0);
   unbooted = formed.unbooted;
-  small = small_now m.config _ ((none-broken (rules_of shelf m (call.AddDisk disk)) (none-from_done (refusal_of shelf m (call.AddDisk disk)) e)).0) formed.small;
+  checked = checked_added shelf m disk formed.checked (none-from_done (refusal_of shelf m (call.AddDisk disk)) e);
   sessions = formed.sessions;
 }
 kept shelf m caller (call.Remove id) reply.Done e formed may = record {
   life_and_config = some_left m _ formed ((none-broken (rules_of shelf m (call.Remove id)) (none-from_done (refusal_of shelf m (call.Remove id)) e)).0);
   unbooted = formed.unbooted;
-  small = small_now m.config _ ((none-broken (rules_of shelf m (call.Remove id)) (none-from_done (refusal_of shelf m (call.Remove id)) e)).0) formed.small;
+  checked = checked_without m.config (checked_of default_config) id ((none-broken (rules_of shelf m (call.Remove id)) (none-from_done (refusal_of shelf m (call.Remove id)) e)).0) formed.checked;
   sessions = formed.sessions;
 }
 kept shelf m caller call.Bye reply.Done e formed may = record {
   life_and_config = formed.life_and_config;
   unbooted = formed.unbooted;
-  small = formed.small;
+  checked = formed.checked;
   sessions = AreSessionsAbove-with_number 0 caller m.ended formed.sessions (omega arith) may.0.1;
 }
 kept shelf m caller call.Stop reply.Done e formed may = record {
   life_and_config = formed.life_and_config;
   unbooted = formed.unbooted;
-  small = formed.small;
+  checked = formed.checked;
   sessions = formed.sessions;
 }
 kept shelf m caller c r e formed may = formed

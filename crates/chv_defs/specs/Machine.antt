@@ -1,10 +1,10 @@
 -- The control state before anything happened, and what holds of every control state.
-use Rattle.std.specs.Prelude.{◌≡◌, ◌≤◌, ◌<◌, ◌^◌, ◌↔◌, ℕ, List, [], ◌∷◌, Option, None, Some, false, sum_by}
-use Rattle.chv_defs.specs.declared.config.ZoneConfig.{ZoneConfig}
+use Rattle.std.specs.Prelude.{◌≡◌, ◌≤◌, ◌<◌, ◌↔◌, ℕ, List, [], ◌∷◌, Option, None, Some, false}
 use Rattle.chv_defs.specs.declared.config.Checked.{Checked}
 use Rattle.chv_defs.specs.declared.machine.Machine.{Machine}
 use Rattle.chv_defs.specs.declared.machine.Life.{Life}
 use Rattle.chv_defs.specs.declared.machine.Life.TheVariants as life
+use Rattle.chv_defs.specs.ConfigRules.{IsChecked}
 
 -- The empty state: there is no machine, and no session has ended.
 abbrev pub empty_machine : Machine
@@ -26,16 +26,15 @@ IsUnbooted life.Created = Unit {0}
 IsUnbooted life.Shutdown = Unit {0}
 IsUnbooted _ = ⊥
 
--- The sizes of the zones of a configuration, in bytes, sum below 2^64.
-abbrev pub HasSmallZones : Option Checked → Type 0
-HasSmallZones None = Unit {0}
-HasSmallZones (Some checked) = sum_by (λ (zone : ZoneConfig). zone.size) checked.zones < 2 ^ 64
+-- The configuration, where there is one, is a checked one.
+abbrev pub HasChecked : Option Checked → Type 0
+HasChecked None = Unit {0}
+HasChecked (Some checked) = IsChecked checked
 
 -- A control state is well formed where it has a configuration exactly where there is a machine, the machine is not
--- booted, the sizes of its zones sum below 2^64 (as the number that `vm.info` shows has to), and the ended ones are
--- sessions, ascending.
+-- booted, its configuration is a checked one, and the ended ones are sessions, ascending.
 pub record IsWellFormed (m : Machine) : Type 0 where
   pub life_and_config : (m.life ≡ life.None) ↔ (m.config ≡ None)
   pub unbooted : IsUnbooted m.life
-  pub small : HasSmallZones m.config
+  pub checked : HasChecked m.config
   pub sessions : AreSessionsAbove 0 m.ended
