@@ -18,7 +18,7 @@ use Rattle.chv_bank.proofs.ShownPages.{is-count}
 use Rattle.chv_defs.specs.LegalBank.{IsNext, IsLegal, OwnerMay, IfAccess, NumbersPins, IfSeal, IfOwner, IsAccess, first_sealed, access_reply}
 use Rattle.chv_bank.specs.declared.state.State.{State}
 use Rattle.chv_bank.specs.declared.bank.Bank.TheInside.{Inside}
-use Rattle.chv_bank.specs.Bank.{BankBook, with_entry, owner_reply, is_unpin, HasItsNumber, refusal_of, sealed_or_full, full, passes_limit, places_of}
+use Rattle.chv_defs.specs.BankBook.{BankBook, with_entry, owner_reply, is_unpin, HasItsNumber, refusal_of, sealed_or_full, full, passes_limit, places_of}
 use Rattle.chv_bank.specs.Caches.{IsStateAfter, Steps}
 use Rattle.chv_bank.specs.CallerPins.{HoldPins, total}
 use Rattle.chv_bank.specs.Kept.{IsKept}

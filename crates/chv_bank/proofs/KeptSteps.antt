@@ -14,7 +14,7 @@ use Rattle.chv_defs.specs.BankState.{PinOut, pins_of, has_pin, is_owner_call, mo
 use Rattle.chv_defs.specs.LegalBank.{IsNext, IsLegal, OwnerMay, access_reply}
 use Rattle.chv_bank.specs.declared.state.State.{State}
 use Rattle.chv_bank.specs.declared.bank.Bank.TheInside.{Inside}
-use Rattle.chv_bank.specs.Bank.{BankBook, with_entry, owner_reply, is_unpin, pages_used, HasItsNumber, refusal_of, passes_limit, places_of, entries_taken, bytes_taken}
+use Rattle.chv_defs.specs.BankBook.{BankBook, with_entry, owner_reply, is_unpin, pages_used, HasItsNumber, refusal_of, passes_limit, places_of, entries_taken, bytes_taken}
 use Rattle.chv_bank.specs.Caches.{IsStateAfter, Steps, pins_after}
 use Rattle.chv_bank.specs.CallerPins.{HoldPins, total}
 use Rattle.chv_bank.specs.Kept.{IsKept}

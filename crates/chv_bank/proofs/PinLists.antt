@@ -12,7 +12,7 @@ use Rattle.chv_defs.specs.declared.bank.BankReply.{BankReply}
 use Rattle.chv_defs.specs.declared.bank.BankReply.TheVariants as reply
 use Rattle.chv_defs.specs.declared.bank.BankEntry.{BankEntry}
 use Rattle.chv_defs.specs.BankState.{PinOut, pins_of, pin_made, is_unpin_of, gives_back, unless_given_back, has_pin}
-use Rattle.chv_bank.specs.Bank.{with_entry}
+use Rattle.chv_defs.specs.BankBook.{with_entry}
 use Rattle.chv_bank.specs.Caches.{pins_after}
 use Rattle.chv_bank.proofs.Sets.{and_false}
 

@@ -7,7 +7,7 @@ use Rattle.chv_defs.specs.declared.bank.BankEntry.{BankEntry}
 use Rattle.chv_defs.specs.BankState.{most_blocks}
 use Rattle.chv_defs.specs.LastByte.{last_byte}
 use Rattle.chv_defs.specs.LegalBank.{page_count}
-use Rattle.chv_bank.specs.Bank.{pages_shown, pages_counted}
+use Rattle.chv_defs.specs.BankBook.{pages_shown, pages_counted}
 use Rattle.chv_defs.specs.PageContents.{Contents, byte_at, page_bytes, page_numbered, is_blank, pages_of, AreExact}
 
 -- bytes read by two readings that agree

@@ -1,5 +1,5 @@
-pub mod Bank
 pub mod CallerPins
 pub mod Caches
+pub mod Carried
 pub mod Kept
 pub mod Laws

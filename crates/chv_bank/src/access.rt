@@ -6,7 +6,7 @@ ghost use Rattle.chv_defs.specs.declared.bank.BankEntry.{BankEntry};
 ghost use Rattle.chv_defs.specs.BankState.{blocks_in, blocks_of, is_owner_call, payload_of, IsCall, IsInBlock, IsInZone};
 ghost use Rattle.chv_defs.specs.LastByte.{last_bytes};
 ghost use Rattle.chv_defs.specs.LegalBank.{access_reply, done_reply, first_closed, first_sealed};
-ghost use Rattle.chv_bank.specs.Bank.{is_unpin, places_of};
+ghost use Rattle.chv_defs.specs.BankBook.{is_unpin, places_of};
 ghost use Rattle.chv_bank.specs.Caches.{IsFormed, IsStateAfter, Steps};
 ghost use Rattle.chv_bank.specs.CallerPins.{total};
 

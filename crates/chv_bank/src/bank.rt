@@ -42,7 +42,7 @@ pub struct Bank {
 }
 
 impl Model for Bank {
-    ghost use Rattle.chv_bank.specs.Bank.{BankBook};
+    ghost use Rattle.chv_defs.specs.BankBook.{BankBook};
 
     ghost Value = { BankBook };
 
@@ -54,7 +54,7 @@ impl Model for Bank {
 }
 
 impl Bank {
-    ghost use Rattle.chv_bank.specs.Bank.{bytes_taken, entries_taken, fresh, full, is_unpin, owner_reply, pages_shown, pages_used, passes_limit, refusal_of, refused_or, room_refusal, with_entry, HasItsNumber};
+    ghost use Rattle.chv_defs.specs.BankBook.{bytes_taken, entries_taken, fresh, full, is_unpin, owner_reply, pages_shown, pages_used, passes_limit, refusal_of, refused_or, room_refusal, with_entry, HasItsNumber};
 
     /// A bank to which nothing happened yet.
     pub fn new(alloc: Global, zone: u8, bank: u8) -> Result<Bank, AllocError>

@@ -7,8 +7,8 @@ ghost use Rattle.chv_defs.specs.PageContents.{byte_at};
 ghost use Rattle.chv_bank.specs.CallerPins.{has_pinned};
 
 use crate::pins::Pins;
-use crate::state::{BANKS, MOST_BLOCKS};
-use chv_defs::Span;
+use crate::state::MOST_BLOCKS;
+use chv_defs::{BANKS, Span};
 use chv_pages::Pages;
 use chv_set::BlockSet;
 
@@ -16,7 +16,7 @@ use chv_set::BlockSet;
 pub fn belongs(bank: u8, block: u32) -> bool
     ensures { result ≡ belongs bank block }
 {
-    block % BANKS == bank as u32
+    block % BANKS as u32 == bank as u32
 }
 
 /// Leaves the numbers below `n` in the set, and no others.

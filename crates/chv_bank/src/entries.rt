@@ -1,7 +1,8 @@
 // Copies of calls and replies, as entries keep them.
 ghost use Rattle.std.specs.Prelude.{◌≡◌, ◌+◌, ◌<◌, ◌≤◌, true, IfOk, length};
 ghost use Rattle.chv_defs.specs.BankState.{is_owner_call, payload_of};
-ghost use Rattle.chv_bank.specs.Bank.{pages_used, places_of, HasNoBytes, HasWholePage};
+ghost use Rattle.chv_defs.specs.BankBook.{pages_used, places_of};
+ghost use Rattle.chv_bank.specs.Carried.{HasNoBytes, HasWholePage};
 
 use crate::sheets::Sheets;
 use chv_defs::{BankCall, BankReply};

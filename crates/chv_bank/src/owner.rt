@@ -4,7 +4,8 @@ ghost use Rattle.chv_defs.specs.declared.bank.BankCall.TheVariants as call;
 ghost use Rattle.chv_defs.specs.declared.bank.BankEntry.{BankEntry};
 ghost use Rattle.chv_defs.specs.BankState.{is_owner_call, most_blocks, IsCall, IsInZone};
 ghost use Rattle.chv_defs.specs.LegalBank.{seal_reply};
-ghost use Rattle.chv_bank.specs.Bank.{owner_reply, pages_counted, pages_used, HasWholePage};
+ghost use Rattle.chv_defs.specs.BankBook.{owner_reply, pages_counted, pages_used};
+ghost use Rattle.chv_bank.specs.Carried.{HasWholePage};
 ghost use Rattle.chv_bank.specs.Caches.{IsFormed, IsStateAfter, Steps};
 
 use crate::blocks::first_pinned;

@@ -7,9 +7,6 @@ use chv_pages::Pages;
 use chv_set::BlockSet;
 use std::alloc::{AllocError, Global};
 
-/// How many banks a zone has.
-pub const BANKS: u32 = 1;
-
 /// How many blocks a zone has at most.
 pub const MOST_BLOCKS: u32 = 32_768;
 

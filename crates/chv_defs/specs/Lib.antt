@@ -1,5 +1,6 @@
 pub mod AddressMap
 pub mod ApiStep
+pub mod BankBook
 pub mod BankState
 pub mod BlockSets
 pub mod ConfigRules
@@ -21,6 +22,7 @@ pub mod Machine
 pub mod Name
 pub mod Numbers
 pub mod Outside
+pub mod OwnerCalls
 pub mod PageContents
 pub mod ProgramText
 pub mod Reasons
@@ -36,3 +38,4 @@ pub mod SessionBytes
 pub mod Shown
 pub mod StreamCut
 pub mod TraceText
+pub mod Zones

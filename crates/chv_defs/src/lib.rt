@@ -23,6 +23,7 @@ mod scene;
 mod session;
 mod text;
 mod trace;
+mod zones;
 
 pub use bank::{BankCall, BankEntry, BankReply, BookId, Full, PageAt, Refusal, Span};
 pub use bytes::Bytes;
@@ -51,3 +52,4 @@ pub use scene::{Asked, Line, MadeDisk, MathOp, OnShelf, OrderStep, Scene, Script
 pub use session::{SessionEnd, SessionLog};
 pub use text::Text;
 pub use trace::{BankTrace, SessionTrace, Trace};
+pub use zones::{BANKS, Banked, MOST_ZONES, Zones};

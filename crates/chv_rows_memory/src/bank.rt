@@ -1,5 +1,5 @@
 // An unplug from its pin to the next plug, the refusals in their order, and each call once with ample memory.
-ghost use Rattle.chv_bank.specs.Bank.{fresh, owner_reply, pages_used, with_entry, HasItsNumber};
+ghost use Rattle.chv_defs.specs.BankBook.{fresh, owner_reply, pages_used, with_entry, HasItsNumber};
 ghost use Rattle.chv_defs.specs.BankState.{is_owner_call, IsCall};
 ghost use Rattle.chv_defs.specs.LegalBank.{access_reply, OwnerMay};
 ghost use Rattle.chv_defs.specs.declared.bank.BankCall.TheVariants as call;

@@ -2,7 +2,7 @@ use Rattle.std.proofs.Common.{◌≡◌, ◌+◌, ◌≤◌, sym, ap, subst, ari
 use Rattle.std.specs.Vec.{vec_capacity}
 use Rattle.std.proofs.lemmas.Grind.{common_steps}
 use Rattle.chv_defs.specs.LegalBank.{access_reply}
-use Rattle.chv_bank.specs.Bank.{BankBook, with_entry, refusal_of, HasItsNumber}
+use Rattle.chv_defs.specs.BankBook.{BankBook, with_entry, refusal_of, HasItsNumber}
 use Rattle.chv_bank.specs.CallerPins.{total}
 use Rattle.chv_bank.specs.declared.bank.Bank.TheInside.{Inside}
 use Rattle.chv_bank.proofs.KeptSteps.{access-kept, IsKept-roomier, seen}

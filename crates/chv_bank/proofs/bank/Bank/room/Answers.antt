@@ -2,7 +2,7 @@ use Rattle.std.proofs.Common.{◌≡◌, ◌+◌, ◌*◌, ◌≤◌, ◌∙◌,
 use Rattle.std.specs.Vec.{vec_capacity}
 use Rattle.chv_defs.specs.PageContents.{Contents}
 use Rattle.chv_defs.specs.BankState.{pins_of}
-use Rattle.chv_bank.specs.Bank.{BankBook, passes_limit}
+use Rattle.chv_defs.specs.BankBook.{BankBook, passes_limit}
 use Rattle.chv_bank.specs.Caches.{IsStateAfter}
 use Rattle.chv_bank.specs.CallerPins.{total}
 use Rattle.chv_bank.specs.declared.bank.Bank.TheInside.{Inside}

@@ -1,4 +1,5 @@
--- What contracts see of a bank, and what its calls answer.
+-- The book of a bank: what contracts see of one lock's share of a memory zone, by which refusal a call on it is refused, and
+-- what it is answered. The limits are this project's own, and the same as the control book's.
 use Rattle.std.specs.Prelude.{◌≡◌, ℕ, ◌+◌, ◌*◌, Bool, true, false, ◌||◌, nat_lt, if◌then◌else◌, List, [], ◌∷◌, ◌++◌, length, Option, None, Some, Result, Ok, Err}
 use Rattle.chv_defs.specs.declared.bank.BankCall.{BankCall}
 use Rattle.chv_defs.specs.declared.bank.BankCall.TheVariants as call
@@ -14,7 +15,7 @@ use Rattle.chv_defs.specs.PageContents.{pages_of}
 use Rattle.chv_defs.specs.LastByte.{last_byte}
 use Rattle.chv_defs.specs.LegalBank.{first_sealed, seal_reply, page_count}
 
--- a bank: which one it is, its history, and for how many entries and pages of its owner places are reserved
+-- A bank: which one it is, its history, and for how many entries and pages of its owner places are reserved.
 pub record BankBook : Type 0 where
   pub zone : ℕ
   pub bank : ℕ
@@ -99,16 +100,6 @@ owner_reply bank before c = reply.Done
 abbrev pub pages_used : BankCall → ℕ
 pages_used (call.Fill block page bytes) = 1
 pages_used c = 0
-
--- the bytes of a Fill are a page
-abbrev pub HasWholePage : BankCall → Type 0
-HasWholePage (call.Fill block page bytes) = length bytes ≡ 4096
-HasWholePage c = Unit {0}
-
--- a reply holds no bytes
-abbrev pub HasNoBytes : BankReply → Type 0
-HasNoBytes (reply.Got bytes) = ⊥
-HasNoBytes r = Unit {0}
 
 -- ---- room
 

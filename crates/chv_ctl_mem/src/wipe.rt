@@ -1,0 +1,35 @@
+// The memory at a shutdown or a delete.
+ghost use Rattle.std.specs.Prelude.{◌≡◌, [], IfOk, OnErr, MatchResult};
+ghost use Rattle.chv_defs.specs.ApiStep.{is_paused};
+ghost use Rattle.chv_defs.specs.BankBook.{refused_or};
+ghost use Rattle.chv_defs.specs.Machine.{HasChecked};
+ghost use Rattle.chv_defs.specs.declared.control.Goal.TheVariants.{Delete};
+ghost use Rattle.chv_defs.specs.declared.control.ControlCall.TheVariants.{Begin};
+ghost use Rattle.chv_ctl_mem.specs.ZoneCalls.{room_refusal_in_all, AreAsBefore, AreAtRest, HaveTheCalls};
+
+use chv_defs::{Machine, Refusal, Zones};
+use std::alloc::AllocError;
+
+/// Closes every block of the zones in effect, while no context is lent and nothing is reserved there but the place that is kept
+/// for a Thaw: every bank of them is wiped, and where the machine is paused, so that they are frozen, thawed before. `Full`
+/// comes exactly where a bank has no place for the entry of its Wipe, and names the lowest such bank of the lowest such zone;
+/// then and at an `Err` every bank is as before.
+pub fn wipe_all<R: Copy, Z: Zones<R>>(
+    rt: R,
+    machine: &Machine,
+    zones: &mut Z,
+) -> Result<Result<(), Refusal>, AllocError>
+    requires checked { HasChecked machine.now.config }
+    requires home { Z.lent zones.old ≡ [] }
+    requires rest { AreAtRest (is_paused machine.now.life) machine.now (Z.known zones.old) }
+    ensures answer { IfOk result (λ answer. answer ≡ refused_or (room_refusal_in_all machine.now (Z.known zones.old) 1) tt) }
+    // (A shutdown asks for the same calls as a delete.)
+    ensures called { IfOk result (λ answer. MatchResult answer
+        (λ _. HaveTheCalls machine.now (Begin Delete) 0 (Z.known zones.old) (Z.known zones.new))
+        (λ _. AreAsBefore (Z.known zones.old) (Z.known zones.new))) }
+    ensures err { OnErr result (AreAsBefore (Z.known zones.old) (Z.known zones.new)) }
+    ensures home { Z.lent zones.new ≡ [] }
+    ensures books { Z.books zones.new ≡ Z.books zones.old }
+{
+    Ok(Ok(()))
+}

@@ -1,0 +1,40 @@
+-- The banks of all zones in one list: those of zone 0, then those of zone 1, and so on.
+use Rattle.std.specs.Prelude.{◌≡◌, ◌<◌, ℕ, ◌+◌, ◌*◌, ◌/◌, ◌%◌, ◌==◌, true, List, length, map, get_or}
+use Rattle.std.specs.List.{list_all, range_with_len}
+use Rattle.chv_defs.specs.declared.bank.BankEntry.{BankEntry}
+use Rattle.chv_defs.specs.BankState.{banks}
+use Rattle.chv_defs.specs.BankBook.{BankBook, fresh}
+use Rattle.chv_defs.specs.Zones.{most_zones, Known}
+
+-- how many banks there are
+abbrev pub bank_count : ℕ
+bank_count = most_zones * banks
+
+-- the place of a bank
+abbrev pub place_of : ℕ → ℕ → ℕ
+place_of zone bank = zone * banks + bank
+
+-- all banks before anything happened to them
+abbrev pub fresh_banks : List BankBook
+fresh_banks = map (λ place. fresh (place / banks) (place % banks)) (range_with_len 0 bank_count)
+
+-- the bank of a zone
+abbrev pub bank_at : List BankBook → ℕ → ℕ → BankBook
+bank_at books zone bank = get_or books (place_of zone bank) (fresh zone bank)
+
+-- what the owner knows of a bank, which is all of it
+abbrev pub known_at : List BankBook → ℕ → ℕ → Known
+known_at books zone bank =
+    let book = bank_at books zone bank in
+    record { history = book.history; entries = book.entries; pages = book.pages }
+
+-- a bank is the one of its place, and all its entries are the owner's, as no context was ever lent
+pub record IsBankAt (place : ℕ) (book : BankBook) : Type 0 where
+  pub zone : book.zone ≡ place / banks
+  pub bank : book.bank ≡ place % banks
+  pub own : list_all (λ (e : BankEntry). e.caller == 0) book.history ≡ true
+
+-- these are the banks of all zones, each at its place
+pub record AreAllBanks (books : List BankBook) : Type 0 where
+  pub all : length books ≡ bank_count
+  pub each : (place : ℕ) → place < bank_count → IsBankAt place (get_or books place (fresh 0 0))

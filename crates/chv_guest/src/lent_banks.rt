@@ -1,0 +1,55 @@
+// The banks of all zones on one thread.
+ghost use Rattle.std.specs.Prelude.{◌≡◌, [], IfOk};
+ghost use Rattle.chv_defs.specs.LegalBank.{IsLegal};
+ghost use Rattle.chv_defs.specs.Zones.{IsBank};
+ghost use Rattle.chv_guest.specs.LentBanks.{bank_at, fresh_banks, known_at};
+
+use chv_bank::Bank;
+use chv_defs::{BANKS, BankCall, BankEntry, BankReply, Banked, MOST_ZONES, PageAt, Refusal, Row, Zones};
+use std::alloc::{AllocError, Global};
+use std::marker::Model;
+
+/// The banks of all zones, on one thread. Contracts see them in one list, those of zone 0 first. So far no context can be
+/// lent, so that every entry is the owner's.
+#[derive(Drop)]
+pub struct LentBanks {
+    banks: Vec<Bank>,
+}
+
+impl Model for LentBanks {
+    ghost use Rattle.std.specs.Prelude.{List};
+    ghost use Rattle.chv_defs.specs.BankBook.{BankBook};
+    ghost use Rattle.chv_guest.specs.LentBanks.{AreAllBanks};
+
+    ghost Value = { List BankBook };
+
+    ghost view = { λ l. l.banks.items };
+
+    ghost invariant = { λ l. AreAllBanks l.banks.items };
+}
+
+impl LentBanks {
+    /// Banks to which nothing happened yet.
+    pub fn new(alloc: Global) -> Result<LentBanks, AllocError>
+        ensures { IfOk result (λ made. made ≡ fresh_banks) };
+
+    /// The history of a bank, which is legal.
+    pub fn history(&self, zone: u8, bank: u8) -> &[BankEntry]
+        requires { IsBank zone bank }
+        ensures value { result.now ≡ (bank_at self.now zone bank).history }
+        ensures legal { IsLegal bank (bank_at self.now zone bank).history };
+
+    /// The banks, those of zone 0 first. Takes no memory.
+    pub fn into_banks(self) -> Vec<Bank>
+        ensures { result.items ≡ self };
+}
+
+impl Banked for LentBanks {
+    ghost known = { known_at };
+
+    ghost lent = { λ _. [] };
+
+    ghost books = { λ _. [] };
+}
+
+// impl Zones<()> for LentBanks: room, give_back, owner, pages, with the trait's clauses.

@@ -1,0 +1,6 @@
+//! Guest memory: the banks of all zones, as their owner reaches them.
+#![tactic(auto)]
+
+mod lent_banks;
+
+pub use lent_banks::LentBanks;
