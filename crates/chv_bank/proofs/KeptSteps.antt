@@ -18,7 +18,7 @@ use Rattle.chv_defs.specs.BankBook.{BankBook, with_entry, owner_reply, is_unpin,
 use Rattle.chv_bank.specs.Caches.{IsStateAfter, Steps, pins_after}
 use Rattle.chv_bank.specs.CallerPins.{HoldPins, total}
 use Rattle.chv_bank.specs.Kept.{IsKept}
-use Rattle.chv_bank.proofs.Appended.{IsKept-entry, IsNext-owner, IsNext-access, IsNext-unpin, IsFree, free}
+use Rattle.chv_bank.proofs.Appended.{IsKept-entry, IsLegal-push, IsNext-owner, IsNext-access, IsNext-unpin, IsFree, free}
 use Rattle.chv_bank.proofs.PinLists.{fewer}
 
 -- what contracts see of the fields
@@ -102,6 +102,12 @@ owner-kept old new c r kept own may answer steps same items bytes sheets reserve
     (omega (arith, entries, pins, kept.entries_fit))
     (omega (arith, bytes, weight, sheets, kept.bytes_fit))
     (omega (arith, entries, pins, kept.room, room))
+
+-- the history stays legal
+pub owner-legal : (bank : ℕ) (before after : List BankEntry) (c : BankCall) (r : BankReply) → IsLegal bank before → is_owner_call c ≡ true → OwnerMay bank before c → r ≡ owner_reply bank before c → after ≡ with_entry before 0 c r → IsLegal bank after
+owner-legal bank before after c r legal own may answer grown =
+    let next : IsNext bank before (record { caller = 0; call = c; reply = r }) = subst (λ (x : BankReply). IsNext bank before (record { caller = 0; call = c; reply = x })) (sym answer) (IsNext-owner bank before c own may) in
+    subst (λ (h : List BankEntry). IsLegal bank h) (sym grown) (IsLegal-push bank before (record { caller = 0; call = c; reply = r }) legal next)
 
 -- ---- accesses
 

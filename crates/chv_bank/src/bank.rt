@@ -122,6 +122,7 @@ impl Bank {
           entries = self.old.entries - 1;
           pages = self.old.pages - pages_used call.now;
         } }
+        ensures legal { IsLegal self.old.bank self.new.history }
     {
         let answer = serve_owner(&mut self.state, self.bank, call);
         let entry = BankEntry {
@@ -275,11 +276,26 @@ impl Bank {
         self.state.memory.list()
     }
 
+    /// For how many entries of the owner places are reserved.
+    pub fn reserved(&self) -> u32
+        ensures { result ≡ self.now.entries }
+    {
+        self.reserved
+    }
+
     /// The history, which is legal.
     pub fn history(&self) -> &[BankEntry]
         ensures value { result.now ≡ self.now.history }
         ensures legal { IsLegal self.now.bank self.now.history }
     {
         self.history.as_slice()
+    }
+
+    /// The history, which is legal, given up. Takes no memory.
+    pub fn into_history(self) -> Row<BankEntry>
+        ensures value { result ≡ self.history }
+        ensures legal { IsLegal self.bank self.history }
+    {
+        Row::new(self.history)
     }
 }

@@ -1,8 +1,8 @@
 -- The banks of all zones in one list: those of zone 0, then those of zone 1, and so on.
-use Rattle.std.specs.Prelude.{◌≡◌, ◌<◌, ℕ, ◌+◌, ◌*◌, ◌/◌, ◌%◌, ◌==◌, true, List, length, map, get_or}
+use Rattle.std.specs.Prelude.{◌≡◌, ◌<◌, ℕ, ◌+◌, ◌*◌, ◌/◌, ◌%◌, ◌==◌, ◌&&◌, Bool, true, List, ◌++◌, length, map, get_or, take, drop}
 use Rattle.std.specs.List.{list_all, range_with_len}
 use Rattle.chv_defs.specs.declared.bank.BankEntry.{BankEntry}
-use Rattle.chv_defs.specs.BankState.{banks}
+use Rattle.chv_defs.specs.BankState.{banks, is_owner_call}
 use Rattle.chv_defs.specs.BankBook.{BankBook, fresh}
 use Rattle.chv_defs.specs.Zones.{most_zones, Known}
 
@@ -14,9 +14,13 @@ bank_count = most_zones * banks
 abbrev pub place_of : ℕ → ℕ → ℕ
 place_of zone bank = zone * banks + bank
 
+-- the bank of a place
+abbrev pub fresh_at : ℕ → BankBook
+fresh_at place = fresh (place / banks) (place % banks)
+
 -- all banks before anything happened to them
 abbrev pub fresh_banks : List BankBook
-fresh_banks = map (λ place. fresh (place / banks) (place % banks)) (range_with_len 0 bank_count)
+fresh_banks = map fresh_at (range_with_len 0 bank_count)
 
 -- the bank of a zone
 abbrev pub bank_at : List BankBook → ℕ → ℕ → BankBook
@@ -28,13 +32,28 @@ known_at books zone bank =
     let book = bank_at books zone bank in
     record { history = book.history; entries = book.entries; pages = book.pages }
 
+-- whether an entry is a call of the owner by the owner
+abbrev pub is_own : BankEntry → Bool
+is_own e = e.caller == 0 && is_owner_call e.call
+
 -- a bank is the one of its place, and all its entries are the owner's, as no context was ever lent
 pub record IsBankAt (place : ℕ) (book : BankBook) : Type 0 where
   pub zone : book.zone ≡ place / banks
   pub bank : book.bank ≡ place % banks
-  pub own : list_all (λ (e : BankEntry). e.caller == 0) book.history ≡ true
+  pub own : list_all is_own book.history ≡ true
 
 -- these are the banks of all zones, each at its place
 pub record AreAllBanks (books : List BankBook) : Type 0 where
   pub all : length books ≡ bank_count
   pub each : (place : ℕ) → place < bank_count → IsBankAt place (get_or books place (fresh 0 0))
+
+-- ---- the banks of one zone
+
+-- the banks of a zone
+abbrev pub banks_of : ℕ → List BankBook → List BankBook
+banks_of zone books = take banks (drop (zone * banks) books)
+
+-- all banks, where those of one zone are changed
+abbrev pub change_zone : ℕ → (BankBook → BankBook) → List BankBook → List BankBook
+change_zone zone change books =
+    take (zone * banks) books ++ (map change (banks_of zone books) ++ drop banks (drop (zone * banks) books))

@@ -1,1 +1,2 @@
 pub mod LentBanks
+pub mod Room

@@ -1,13 +1,19 @@
 // The banks of all zones on one thread.
-ghost use Rattle.std.specs.Prelude.{◌≡◌, [], IfOk};
+ghost use Rattle.std.specs.Prelude.{◌≡◌, ◌<◌, [], IfOk};
 ghost use Rattle.chv_defs.specs.LegalBank.{IsLegal};
-ghost use Rattle.chv_defs.specs.Zones.{IsBank};
-ghost use Rattle.chv_guest.specs.LentBanks.{bank_at, fresh_banks, known_at};
+ghost use Rattle.chv_defs.specs.Zones.{most_zones, IsBank};
+ghost use Rattle.chv_guest.specs.LentBanks.{bank_at, fresh_banks, known_at, place_of};
 
+use crate::room::{keep_room, make_room};
 use chv_bank::Bank;
-use chv_defs::{BANKS, BankCall, BankEntry, BankReply, Banked, MOST_ZONES, PageAt, Refusal, Row, Zones};
+use chv_defs::{
+    BANKS, BankCall, BankEntry, BankReply, Banked, MOST_ZONES, PageAt, Refusal, Row, Zones,
+};
 use std::alloc::{AllocError, Global};
 use std::marker::Model;
+
+/// How many banks there are.
+const BANK_COUNT: u16 = MOST_ZONES as u16 * BANKS as u16;
 
 /// The banks of all zones, on one thread. Contracts see them in one list, those of zone 0 first. So far no context can be
 /// lent, so that every entry is the owner's.
@@ -28,20 +34,45 @@ impl Model for LentBanks {
     ghost invariant = { λ l. AreAllBanks l.banks.items };
 }
 
+// The place of a bank.
+fn place_of(zone: u8, bank: u8) -> usize
+    ensures { result ≡ place_of zone bank }
+{
+    zone as usize * BANKS as usize + bank as usize
+}
+
 impl LentBanks {
     /// Banks to which nothing happened yet.
     pub fn new(alloc: Global) -> Result<LentBanks, AllocError>
-        ensures { IfOk result (λ made. made ≡ fresh_banks) };
+        ensures { IfOk result (λ made. made ≡ fresh_banks) }
+    {
+        let mut banks = Vec::new(alloc);
+        for place in 0..BANK_COUNT {
+            let bank = Bank::new(
+                alloc,
+                (place / BANKS as u16) as u8,
+                (place % BANKS as u16) as u8,
+            )?;
+            banks.push(bank)?;
+        }
+        Ok(LentBanks { banks })
+    }
 
     /// The history of a bank, which is legal.
     pub fn history(&self, zone: u8, bank: u8) -> &[BankEntry]
         requires { IsBank zone bank }
         ensures value { result.now ≡ (bank_at self.now zone bank).history }
-        ensures legal { IsLegal bank (bank_at self.now zone bank).history };
+        ensures legal { IsLegal bank (bank_at self.now zone bank).history }
+    {
+        self.banks[place_of(zone, bank)].history()
+    }
 
     /// The banks, those of zone 0 first. Takes no memory.
     pub fn into_banks(self) -> Vec<Bank>
-        ensures { result.items ≡ self };
+        ensures { result.items ≡ self }
+    {
+        self.banks
+    }
 }
 
 impl Banked for LentBanks {
@@ -52,4 +83,28 @@ impl Banked for LentBanks {
     ghost books = { λ _. [] };
 }
 
-// impl Zones<()> for LentBanks: room, give_back, owner, pages, with the trait's clauses.
+impl Zones<()> for LentBanks {
+    fn room(
+        &mut self,
+        _rt: (),
+        zone: u8,
+        entries: u32,
+        pages: u32,
+    ) -> Result<Result<(), Refusal>, AllocError> {
+        let start = place_of(zone, 0);
+        make_room(&mut self.banks[start..start + BANKS as usize], entries, pages)
+    }
+
+    fn give_back(&mut self, _rt: (), zone: u8, keep: u32) {
+        let start = place_of(zone, 0);
+        keep_room(&mut self.banks[start..start + BANKS as usize], keep);
+    }
+
+    fn owner(&mut self, _rt: (), zone: u8, bank: u8, call: &BankCall) -> BankReply {
+        self.banks[place_of(zone, bank)].owner(call)
+    }
+
+    fn pages(&mut self, _rt: (), zone: u8, bank: u8) -> Result<Row<PageAt>, AllocError> {
+        self.banks[place_of(zone, bank)].pages()
+    }
+}

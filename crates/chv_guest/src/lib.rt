@@ -2,5 +2,6 @@
 #![tactic(auto)]
 
 mod lent_banks;
+mod room;
 
 pub use lent_banks::LentBanks;

@@ -1,0 +1,7 @@
+use Rattle.std.proofs.Common.{subst}
+use Rattle.chv_defs.specs.LegalBank.{IsLegal}
+use Rattle.chv_defs.specs.BankBook.{BankBook}
+use Rattle.chv_bank.proofs.bank.Bank.into_history.Goals as goal
+
+pub returns-clause-legal : goal.returns-clause-legal
+returns-clause-legal c = subst (λ (b : BankBook). IsLegal b.bank b.history) c.self.view_is c.self.invariant.legal

@@ -1,0 +1,3 @@
+pub mod ZoneBanks
+pub mod OwnEntries
+pub mod Refusals

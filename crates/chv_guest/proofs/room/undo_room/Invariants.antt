@@ -1,0 +1,7 @@
+use Rattle.std.proofs.Common.{◌≡◌, ◌++◌, map, take, drop}
+use Rattle.chv_guest.specs.Room.{without_places}
+use Rattle.chv_guest.proofs.room.undo_room.Given as goal
+
+abbrev pub invariant-loop-bank : goal.invariant-loop-bank
+invariant-loop-bank l =
+    l.banks ≡ map (without_places l.entries) (take l.bank-index l.initial.banks) ++ drop l.bank-index l.initial.banks
