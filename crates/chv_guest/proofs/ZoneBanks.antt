@@ -54,14 +54,21 @@ changed-above from count k change xs d above fit =
     ∙ get_or-drop from xs (count + (k - from - count)) d
     ∙ ap (λ (i : ℕ). get_or xs i d) here
 
+-- what a write to a part leaves in a vector
+pub written : {X : Type 0} (from count : ℕ) (change : X → X) (xs ys : List X) (len : ℕ) → length xs ≡ len → ys ≡ map change (take count (drop from xs)) →
+    take len (take from xs ++ (ys ++ drop count (drop from xs))) ++ drop (length (take from xs ++ (ys ++ drop count (drop from xs)))) xs ≡ changed from count change xs
+written from count change xs ys len long is =
+    let ws : List _ = take from xs ++ (ys ++ drop count (drop from xs)) in
+    ?
+
 -- ---- places
 
 -- the banks of different zones stand apart
 pub apart : (n z b z' b' : ℕ) → b < n → b' < n → z ≢ z' → (z * n + b < z' * n) ⊎ (z' * n + n ≤ z * n + b)
 apart n z b z' b' in' in'' ne =
     ⊎_elim
-    (λ (below : z < z'). inl (let next : (z + 1) * n ≤ z' * n = mul-le-mul_right n below in omega arith))
-    (λ (above : z' ≤ z). inr (let next : (z' + 1) * n ≤ z * n = mul-le-mul_right n (omega arith) in omega arith))
+    (λ (below : z < z'). inl (let up : z + 1 ≤ z' = omega arith in let next : (z + 1) * n ≤ z' * n = mul-le-mul_right n up in omega arith))
+    (λ (above : z' ≤ z). inr (let up : z' + 1 ≤ z = omega arith in let next : (z' + 1) * n ≤ z * n = mul-le-mul_right n up in omega arith))
     (cases_lt z z')
 
 -- each bank has a place among all
@@ -155,6 +162,6 @@ AreAllBanks-set books place book all here is = record {
 pub AreAllBanks-fresh : AreAllBanks fresh_banks
 AreAllBanks-fresh = record {
   all = length-map-range_with_len fresh_at 0 bank_count;
-  each = λ place here. subst (λ (b : BankBook). IsBankAt place b) (sym (get_or-map-range_with_len fresh_at 0 bank_count place place (fresh 0 0) here refl))
+  each = λ place here. subst (λ (b : BankBook). IsBankAt place b) (sym (get_or-map-range_with_len fresh_at 0 bank_count place place (fresh 0 0) here (omega arith)))
     (record { zone = refl; bank = refl; own = refl });
 }

@@ -1,6 +1,6 @@
 -- Room in some banks.
-use Rattle.std.specs.Prelude.{◌≡◌, ℕ, ◌+◌, ◌-◌, List, map, min, Option}
-use Rattle.std.specs.List.{list_all}
+use Rattle.std.specs.Prelude.{ℕ, ◌+◌, ◌-◌, Bool, true, false, List, map, min, Option, Result, Ok, Err}
+use Rattle.std.specs.declared.alloc.AllocError.{AllocError}
 use Rattle.chv_defs.specs.declared.bank.Refusal.{Refusal}
 use Rattle.chv_defs.specs.BankBook.{BankBook, room_refusal}
 use Rattle.chv_defs.specs.Zones.{first_due}
@@ -20,3 +20,9 @@ keep_places keep b = record b { entries = min b.entries keep; pages = 0 }
 -- the first refusal of room for these entries and pages in each bank, where one is due
 abbrev pub refusal_in : List BankBook → ℕ → ℕ → Option Refusal
 refusal_in books entries pages = first_due (map (λ (b : BankBook). room_refusal b entries pages) books)
+
+-- whether room was made
+abbrev pub is_made : Result (Result (Unit {0}) Refusal) AllocError → Bool
+is_made (Ok (Ok done)) = true
+is_made (Ok (Err why)) = false
+is_made (Err none) = false

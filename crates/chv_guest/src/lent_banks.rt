@@ -2,9 +2,9 @@
 ghost use Rattle.std.specs.Prelude.{◌≡◌, ◌<◌, [], IfOk};
 ghost use Rattle.chv_defs.specs.LegalBank.{IsLegal};
 ghost use Rattle.chv_defs.specs.Zones.{most_zones, IsBank};
-ghost use Rattle.chv_guest.specs.LentBanks.{bank_at, fresh_banks, known_at, place_of};
+ghost use Rattle.chv_guest.specs.LentBanks.{bank_at, fresh_banks, known_at};
 
-use crate::room::{keep_room, make_room};
+use crate::room::{keep_room, make_room, place_of};
 use chv_bank::Bank;
 use chv_defs::{
     BANKS, BankCall, BankEntry, BankReply, Banked, MOST_ZONES, PageAt, Refusal, Row, Zones,
@@ -32,13 +32,6 @@ impl Model for LentBanks {
     ghost view = { λ l. l.banks.items };
 
     ghost invariant = { λ l. AreAllBanks l.banks.items };
-}
-
-// The place of a bank.
-fn place_of(zone: u8, bank: u8) -> usize
-    ensures { result ≡ place_of zone bank }
-{
-    zone as usize * BANKS as usize + bank as usize
 }
 
 impl LentBanks {
@@ -91,13 +84,11 @@ impl Zones<()> for LentBanks {
         entries: u32,
         pages: u32,
     ) -> Result<Result<(), Refusal>, AllocError> {
-        let start = place_of(zone, 0);
-        make_room(&mut self.banks[start..start + BANKS as usize], entries, pages)
+        make_room(&mut self.banks, zone, entries, pages)
     }
 
     fn give_back(&mut self, _rt: (), zone: u8, keep: u32) {
-        let start = place_of(zone, 0);
-        keep_room(&mut self.banks[start..start + BANKS as usize], keep);
+        keep_room(&mut self.banks, zone, keep);
     }
 
     fn owner(&mut self, _rt: (), zone: u8, bank: u8, call: &BankCall) -> BankReply {

@@ -1,6 +1,6 @@
 use Rattle.std.proofs.Common.{◌≡◌, ◌++◌, map, take, drop}
 use Rattle.chv_guest.specs.Room.{refusal_in, with_places}
-use Rattle.chv_guest.proofs.room.make_room.Given as goal
+use Rattle.chv_guest.proofs.room.make_room_in.Given as goal
 
 -- The banks so far have room, those from here on are as they were, and which refusal is due they decide.
 abbrev pub invariant-loop-place : goal.invariant-loop-place
