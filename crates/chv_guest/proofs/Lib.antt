@@ -1,3 +1,4 @@
 pub mod ZoneBanks
 pub mod OwnEntries
 pub mod Refusals
+pub mod KnownBanks

@@ -58,10 +58,3 @@ may-from_ask bank history (call.Read block offset len) own ask = ask
 may-from_ask bank history (call.Write block offset bytes) own ask = ask
 may-from_ask bank history (call.Pin number span) own ask = ask
 may-from_ask bank history (call.Unpin number) own ask = ask
-
--- a further entry of the owner
-pub own-with_entry : (history : List BankEntry) (c : BankCall) (r : BankReply) → list_all is_own history ≡ true → is_owner_call c ≡ true → list_all is_own (with_entry history 0 c r) ≡ true
-own-with_entry [] c r own mine = ap (λ (b : Bool). b && true) mine
-own-with_entry (e ∷ es) c r own mine =
-    let parts = both (is_own e) (list_all is_own es) own in
-    ap (λ (b : Bool). b && list_all is_own (with_entry es 0 c r)) parts.0 ∙ own-with_entry es c r parts.1 mine

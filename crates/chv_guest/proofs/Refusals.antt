@@ -14,21 +14,11 @@ pub due-ok : (due : Option Refusal) (u : Unit {0}) (answer : Result (Unit {0}) R
 due-ok (Some other) u answer e ok = cc
 due-ok None u answer e ok = refl
 
--- a bank that refuses decides
-pub refusal_in-some : (books : List BankBook) (k entries pages : ℕ) (d : BankBook) (why : Refusal) → k < length books → room_refusal (get_or books k d) entries pages ≡ Some why → refusal_in (drop k books) entries pages ≡ Some why
-refusal_in-some books k entries pages d why inside due =
-    at_drop_more (λ (xs : List BankBook). refusal_in xs entries pages) books k d inside
-    ∙ ap (λ (r : Option Refusal). first_due (r ∷ map (λ (b : BankBook). room_refusal b entries pages) (drop (k + 1) books))) due
-
--- a bank that does not leaves it to those behind it
+-- a bank that does not refuse leaves it to those behind it
 pub refusal_in-none : (books : List BankBook) (k entries pages : ℕ) (d : BankBook) → k < length books → room_refusal (get_or books k d) entries pages ≡ None → refusal_in (drop k books) entries pages ≡ refusal_in (drop (k + 1) books) entries pages
 refusal_in-none books k entries pages d inside due =
     at_drop_more (λ (xs : List BankBook). refusal_in xs entries pages) books k d inside
     ∙ ap (λ (r : Option Refusal). first_due (r ∷ map (λ (b : BankBook). room_refusal b entries pages) (drop (k + 1) books))) due
-
--- with no bank left none is due
-pub refusal_in-all : (books : List BankBook) (k entries pages : ℕ) → length books ≤ k → refusal_in (drop k books) entries pages ≡ None
-refusal_in-all books k entries pages all = at_drop_all (λ (xs : List BankBook). refusal_in xs entries pages) books k all
 
 -- a bank that gave back what it got is as before
 pub without-with : (entries pages : ℕ) (b : BankBook) → b.pages ≡ 0 → without_places entries (with_places entries pages b) ≡ b

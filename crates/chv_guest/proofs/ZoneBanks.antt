@@ -54,13 +54,6 @@ changed-above from count k change xs d above fit =
     ∙ get_or-drop from xs (count + (k - from - count)) d
     ∙ ap (λ (i : ℕ). get_or xs i d) here
 
--- what a write to a part leaves in a vector
-pub written : {X : Type 0} (from count : ℕ) (change : X → X) (xs ys : List X) (len : ℕ) → length xs ≡ len → ys ≡ map change (take count (drop from xs)) →
-    take len (take from xs ++ (ys ++ drop count (drop from xs))) ++ drop (length (take from xs ++ (ys ++ drop count (drop from xs)))) xs ≡ changed from count change xs
-written from count change xs ys len long is =
-    let ws : List _ = take from xs ++ (ys ++ drop count (drop from xs)) in
-    ?
-
 -- ---- places
 
 -- the banks of different zones stand apart
@@ -92,6 +85,17 @@ zone-known books zone bank all known inside = (at-place books zone bank all know
 
 pub bank-known : (books : List BankBook) (zone bank : ℕ) → AreAllBanks books → zone < most_zones → bank < banks → (bank_at books zone bank).bank ≡ bank
 bank-known books zone bank all known inside = (at-place books zone bank all known inside).bank ∙ mod-mul-add zone banks bank inside
+
+-- the bank that was read at its place
+pub bank-read : (books : List BankBook) (zone bank place : ℕ) (b : BankBook) → AreAllBanks books → zone < most_zones → bank < banks → place ≡ zone * banks + bank → b ≡ get_or books place b → b ≡ bank_at books zone bank
+bank-read books zone bank place b all known inside here read =
+    read ∙ ap (λ (p : ℕ). get_or books p b) here ∙ get_or_default books (zone * banks + bank) b (fresh zone bank) (omega (arith, place-fits zone bank known inside, all.all))
+
+-- the bank that was written there
+pub bank-set : (books : List BankBook) (zone bank place : ℕ) (b : BankBook) → AreAllBanks books → zone < most_zones → bank < banks → place ≡ zone * banks + bank → bank_at (set books place b) zone bank ≡ b
+bank-set books zone bank place b all known inside here =
+    ap (λ (p : ℕ). bank_at (set books p b) zone bank) here
+    ∙ get_or-set_same books (zone * banks + bank) b (fresh zone bank) (omega (arith, place-fits zone bank known inside, all.all))
 
 -- ---- a zone is changed
 
@@ -143,19 +147,6 @@ AreAllBanks-changed books zone change keeps known all =
           (cases_lt place (zone * banks + banks)))
         (cases_lt place (zone * banks));
     }
-
--- ---- a bank is changed
-
-pub AreAllBanks-set : (books : List BankBook) (place : ℕ) (book : BankBook) → AreAllBanks books → place < bank_count → IsBankAt place book → AreAllBanks (set books place book)
-AreAllBanks-set books place book all here is = record {
-  all = length-set books place book ∙ all.all;
-  each = λ k inside.
-    ⊎_elim
-    (λ (same : k ≡ place). subst (λ (p : ℕ). IsBankAt p (get_or (set books place book) p (fresh 0 0))) (sym same)
-      (subst (λ (b : BankBook). IsBankAt place b) (sym (get_or-set_same books place book (fresh 0 0) (omega (arith, all.all)))) is))
-    (λ (other : k ≢ place). subst (λ (b : BankBook). IsBankAt k b) (sym (get_or-set_other books place k book (fresh 0 0) other)) (all.each k inside))
-    (cases_eq k place);
-}
 
 -- ---- nothing happened yet
 

@@ -4,6 +4,8 @@
 #[cfg(test)]
 mod bank;
 #[cfg(test)]
+mod guest;
+#[cfg(test)]
 mod pages;
 #[cfg(test)]
 mod set;

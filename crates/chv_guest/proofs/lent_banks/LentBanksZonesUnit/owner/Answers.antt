@@ -1,0 +1,31 @@
+use Rattle.std.proofs.Common.{◌≡◌, ℕ, List, [], set, sym, ap, subst, ◌∙◌}
+use Rattle.chv_defs.specs.BankBook.{BankBook}
+use Rattle.chv_defs.specs.LegalBank.{IsLegal, OwnerMay}
+use Rattle.chv_defs.specs.Zones.{OwnerMayAsk}
+use Rattle.chv_guest.specs.LentBanks.{bank_at}
+use Rattle.chv_guest.proofs.ZoneBanks.{at-place, bank-known, bank-read, bank-set}
+use Rattle.chv_guest.proofs.OwnEntries.{may-from_ask}
+use Rattle.chv_guest.proofs.lent_banks.LentBanksZonesUnit.owner.Goals as goal
+
+pub owner-requires-clause-condition : goal.owner-requires-clause-condition
+owner-requires-clause-condition c =
+    let old : List BankBook = c.self.inside.banks.items in
+    let here : c.index_mut.result.now ≡ bank_at old c.args.zone c.args.bank =
+    bank-read old c.args.zone c.args.bank c.place_of.result c.index_mut.result.now c.self.invariant c.requires.zone.0 c.requires.zone.1 c.place_of.ensures c.index_mut.ensures.value in
+    let ask : OwnerMayAsk [] c.args.bank (bank_at old c.args.zone c.args.bank).history c.args.call.now =
+    subst (λ (books : List BankBook). OwnerMayAsk [] c.args.bank (bank_at books c.args.zone c.args.bank).history c.args.call.now) (sym c.self.view_is) c.requires.condition in
+    let may : OwnerMay c.args.bank (bank_at old c.args.zone c.args.bank).history c.args.call.now =
+    may-from_ask c.args.bank (bank_at old c.args.zone c.args.bank).history c.args.call.now (at-place old c.args.zone c.args.bank c.self.invariant c.requires.zone.0 c.requires.zone.1).own ask in
+    subst (λ (b : BankBook). OwnerMay b.bank b.history c.args.call.now) (sym here)
+    (subst (λ (bank : ℕ). OwnerMay bank (bank_at old c.args.zone c.args.bank).history c.args.call.now) (sym (bank-known old c.args.zone c.args.bank c.self.invariant c.requires.zone.0 c.requires.zone.1)) may)
+
+pub returns-clause-legal : goal.returns-clause-legal
+returns-clause-legal c =
+    let old : List BankBook = c.self.inside.banks.items in
+    let here : c.index_mut.result.now ≡ bank_at old c.args.zone c.args.bank =
+    bank-read old c.args.zone c.args.bank c.place_of.result c.index_mut.result.now c.self.invariant c.requires.zone.0 c.requires.zone.1 c.place_of.ensures c.index_mut.ensures.value in
+    let known : c.index_mut.result.now.bank ≡ c.args.bank =
+    ap (λ (b : BankBook). b.bank) here ∙ bank-known old c.args.zone c.args.bank c.self.invariant c.requires.zone.0 c.requires.zone.1 in
+    let legal : IsLegal c.args.bank c.owner.new.self.history = subst (λ (bank : ℕ). IsLegal bank c.owner.new.self.history) known c.owner.ensures.legal in
+    subst (λ (b : BankBook). IsLegal c.args.bank b.history)
+    (sym (bank-set old c.args.zone c.args.bank c.place_of.result c.owner.new.self c.self.invariant c.requires.zone.0 c.requires.zone.1 c.place_of.ensures)) legal
