@@ -2,7 +2,7 @@
 ghost use Rattle.std.specs.Prelude.{◌≡◌, ◌<◌, [], IfOk};
 ghost use Rattle.chv_defs.specs.LegalBank.{IsLegal};
 ghost use Rattle.chv_defs.specs.Zones.{most_zones, IsBank};
-ghost use Rattle.chv_guest.specs.LentBanks.{bank_at, fresh_banks, known_at};
+ghost use Rattle.chv_guest.specs.LentBanks.{bank_at, fresh_banks, known_at, AreAllBanks};
 
 use crate::room::{keep_room, make_room, place_of};
 use chv_bank::Bank;
@@ -60,9 +60,10 @@ impl LentBanks {
         self.banks[place_of(zone, bank)].history()
     }
 
-    /// The banks, those of zone 0 first. Takes no memory.
+    /// The banks of all zones, those of zone 0 first. Takes no memory.
     pub fn into_banks(self) -> Vec<Bank>
-        ensures { result.items ≡ self }
+        ensures value { result.items ≡ self }
+        ensures all { AreAllBanks result.items }
     {
         self.banks
     }
