@@ -1,16 +1,15 @@
 -- What the owner knows of the banks, through its calls.
-use Rattle.std.proofs.Common.{◌≡◌, ◌≢◌, ℕ, ◌+◌, ◌-◌, ◌*◌, ◌<◌, ◌≤◌, true, false, List, [], ◌∷◌, ◌++◌, length, get_or, set, take, drop, map, min, IfOk, Option, None, Some, Result, Ok, Err, sym, ap, subst, ◌∙◌, refl, arith}
+use Rattle.std.proofs.Common.{◌≡◌, ◌≢◌, ℕ, ◌+◌, ◌-◌, ◌*◌, ◌<◌, ◌≤◌, false, List, [], length, drop, map, IfOk, Option, None, Result, Ok, Err, sym, ap, subst, ◌∙◌, refl, arith}
 use Rattle.std.specs.Prelude.{◌==◌, if◌then◌else◌}
-use Rattle.std.specs.List.{range_with_len}
 use Rattle.std.specs.declared.alloc.AllocError.{AllocError}
 use Rattle.std.proofs.lemmas.Bool.Decides.{nat_tests}
-use Rattle.std.proofs.lemmas.List.{append-nil, length-map, length-take-le, length-drop, get_or-map, get_or-take, get_or-drop, get_or_default}
+use Rattle.std.proofs.lemmas.List.{append-nil, length-map, length-take-le, length-drop, get_or-map, get_or-take, get_or-drop}
 use Rattle.std.proofs.lemmas.List.FromFn.{fill_by_all}
 use Rattle.chv_defs.specs.declared.bank.BankEntry.{BankEntry}
 use Rattle.chv_defs.specs.declared.bank.Refusal.{Refusal}
 use Rattle.chv_defs.specs.BankState.{banks}
 use Rattle.chv_defs.specs.BankBook.{BankBook, fresh, refused_or, room_refusal}
-use Rattle.chv_defs.specs.Zones.{book_of, first_due, most_zones, zone_refusal, GivesBack, GoesOn, IsBank, Known, MakesRoom, OnlySeesMore, OtherZonesStay}
+use Rattle.chv_defs.specs.Zones.{book_of, first_due, most_zones, zone_refusal, GivesBack, GoesOn, Known, MakesRoom, OtherZonesStay}
 use Rattle.chv_guest.specs.LentBanks.{bank_at, banks_of, change_zone, known_at, AreAllBanks}
 use Rattle.chv_guest.specs.Room.{is_made, keep_places, refusal_in, with_places}
 use Rattle.chv_guest.proofs.ZoneBanks.{bank-known, bank_at-changed, bank_at-other, zone-fits, zone-known, AreAllBanks-changed, KeepsBook}
@@ -65,14 +64,14 @@ refusal_in-zone books zone entries pages all known =
     let rest : length (drop (zone * banks) books) ≡ length books - zone * banks = length-drop (zone * banks) books in
     let part : length (banks_of zone books) ≡ banks = length-take-le banks (drop (zone * banks) books) (omega arith) in
     ap first_due (fill_by_all (λ (bank : ℕ). room_refusal (book_of zone bank (known_at books zone bank)) entries pages)
-      (map (λ (b : BankBook). room_refusal b entries pages) (banks_of zone books)) banks None
-      (length-map (banks_of zone books) (λ (b : BankBook). room_refusal b entries pages) ∙ part)
-      (λ bank inside.
-        get_or-map (λ (b : BankBook). room_refusal b entries pages) (banks_of zone books) bank (fresh zone bank) None (omega arith)
-        ∙ ap (λ (b : BankBook). room_refusal b entries pages)
-          (get_or-take banks (drop (zone * banks) books) bank (fresh zone bank) inside
-          ∙ get_or-drop (zone * banks) books bank (fresh zone bank)
-          ∙ sym (book-known books zone bank all known inside))))
+    (map (λ (b : BankBook). room_refusal b entries pages) (banks_of zone books)) banks None
+    (length-map (banks_of zone books) (λ (b : BankBook). room_refusal b entries pages) ∙ part)
+    (λ bank inside.
+    get_or-map (λ (b : BankBook). room_refusal b entries pages) (banks_of zone books) bank (fresh zone bank) None (omega arith)
+    ∙ ap (λ (b : BankBook). room_refusal b entries pages)
+    (get_or-take banks (drop (zone * banks) books) bank (fresh zone bank) inside
+    ∙ get_or-drop (zone * banks) books bank (fresh zone bank)
+    ∙ sym (book-known books zone bank all known inside))))
 
 pub makes_room : (books : List BankBook) (zone entries pages : ℕ) (answer : Result (Result (Unit {0}) Refusal) AllocError) → AreAllBanks books → zone < most_zones
     → IfOk answer (λ a. a ≡ refused_or (refusal_in (banks_of zone books) entries pages) tt)

@@ -2,7 +2,7 @@
 use Rattle.std.proofs.Common.{◌≡◌, ℕ, ◌+◌, ◌-◌, ◌<◌, ◌≤◌, List, [], ◌∷◌, ◌++◌, length, get_or, set, take, drop, map, IfOk, MatchResult, OnErr, true, false, Option, Some, None, Result, Ok, Err, sym, ap, ◌∙◌, refl, arith}
 use Rattle.std.specs.declared.alloc.AllocError.{AllocError}
 use Rattle.std.specs.List.{All}
-use Rattle.std.proofs.lemmas.List.{at_drop_more, at_drop_all, take-append-drop, set-get_or, length-map, length-take-le, get_or-append_right, get_or-drop, take_at, drop_at}
+use Rattle.std.proofs.lemmas.List.{at_drop_more, take-append-drop, set-get_or, length-map, length-take-le, get_or-append_right, get_or-drop, take_at, drop_at}
 use Rattle.std.proofs.lemmas.List.Elements.{All-head, All-tail, All-take}
 use Rattle.chv_defs.specs.declared.bank.Refusal.{Refusal}
 use Rattle.chv_defs.specs.BankBook.{BankBook, refused_or, room_refusal}

@@ -1,9 +1,9 @@
 -- The banks of one zone among all banks.
-use Rattle.std.proofs.Common.{◌≡◌, ◌≢◌, ℕ, ◌+◌, ◌-◌, ◌*◌, ◌/◌, ◌%◌, ◌<◌, ◌≤◌, ◌⊎◌, inl, inr, ⊎_elim, List, [], ◌∷◌, ◌++◌, length, get_or, set, take, drop, map, min, sym, ap, subst, ◌∙◌, refl, arith, rules}
+use Rattle.std.proofs.Common.{◌≡◌, ◌≢◌, ℕ, ◌+◌, ◌-◌, ◌*◌, ◌<◌, ◌≤◌, ◌⊎◌, inl, inr, ⊎_elim, List, ◌++◌, length, get_or, set, take, drop, map, sym, ap, subst, ◌∙◌, refl, arith}
 use Rattle.std.specs.List.{list_all}
-use Rattle.std.proofs.lemmas.Bool.{cases_eq, cases_lt}
+use Rattle.std.proofs.lemmas.Bool.{cases_lt}
 use Rattle.std.proofs.lemmas.Nat.{mul-add-lt, div-mul-add, mod-mul-add}
-use Rattle.std.proofs.lemmas.List.{places, length-take, length-take-le, length-map, length-drop, length-append, get_or-append_right, get_or_append_left, get_or-map, get_or-take, get_or-drop, get_or_default, length-set, get_or-set_same, get_or-set_other}
+use Rattle.std.proofs.lemmas.List.{length-take, length-take-le, length-map, length-drop, length-append, get_or-append_right, get_or_append_left, get_or-map, get_or-take, get_or-drop, get_or_default, get_or-set_same}
 use Rattle.std.proofs.lemmas.List.FromFn.{length-map-range_with_len, get_or-map-range_with_len}
 use Rattle.std.proofs.Math.Nat.{mul-le-mul_right}
 use Rattle.chv_defs.specs.declared.bank.BankEntry.{BankEntry}
@@ -131,21 +131,21 @@ AreAllBanks-changed books zone change keeps known all =
     record {
       all = length-changed (zone * banks) banks change books ∙ all.all;
       each = λ place here.
-        ⊎_elim
-        (λ (below : place < zone * banks). subst (λ (b : BankBook). IsBankAt place b)
+          ⊎_elim
+          (λ (below : place < zone * banks). subst (λ (b : BankBook). IsBankAt place b)
           (sym (changed-below (zone * banks) banks place change books (fresh 0 0) below fits)) (all.each place here))
-        (λ (from : zone * banks ≤ place). ⊎_elim
+          (λ (from : zone * banks ≤ place). ⊎_elim
           (λ (inside : place < zone * banks + banks).
-            let at : zone * banks + (place - zone * banks) ≡ place = omega arith in
-            subst (λ (p : ℕ). IsBankAt place (get_or (change_zone zone change books) p (fresh 0 0))) at
-            (subst (λ (b : BankBook). IsBankAt place b)
-              (sym (changed-inside (zone * banks) banks (place - zone * banks) change books (fresh 0 0) (omega arith) fits))
-              (IsBankAt-change place change (get_or books (zone * banks + (place - zone * banks)) (fresh 0 0)) keeps
-                (subst (λ (p : ℕ). IsBankAt place (get_or books p (fresh 0 0))) (sym at) (all.each place here)))))
+          let at : zone * banks + (place - zone * banks) ≡ place = omega arith in
+          subst (λ (p : ℕ). IsBankAt place (get_or (change_zone zone change books) p (fresh 0 0))) at
+          (subst (λ (b : BankBook). IsBankAt place b)
+          (sym (changed-inside (zone * banks) banks (place - zone * banks) change books (fresh 0 0) (omega arith) fits))
+          (IsBankAt-change place change (get_or books (zone * banks + (place - zone * banks)) (fresh 0 0)) keeps
+          (subst (λ (p : ℕ). IsBankAt place (get_or books p (fresh 0 0))) (sym at) (all.each place here)))))
           (λ (above : zone * banks + banks ≤ place). subst (λ (b : BankBook). IsBankAt place b)
-            (sym (changed-above (zone * banks) banks place change books (fresh 0 0) above fits)) (all.each place here))
+          (sym (changed-above (zone * banks) banks place change books (fresh 0 0) above fits)) (all.each place here))
           (cases_lt place (zone * banks + banks)))
-        (cases_lt place (zone * banks));
+          (cases_lt place (zone * banks));
     }
 
 -- ---- nothing happened yet
@@ -154,5 +154,5 @@ pub AreAllBanks-fresh : AreAllBanks fresh_banks
 AreAllBanks-fresh = record {
   all = length-map-range_with_len fresh_at 0 bank_count;
   each = λ place here. subst (λ (b : BankBook). IsBankAt place b) (sym (get_or-map-range_with_len fresh_at 0 bank_count place place (fresh 0 0) here (omega arith)))
-    (record { zone = refl; bank = refl; own = refl });
+      (record { zone = refl; bank = refl; own = refl });
 }

@@ -1,4 +1,4 @@
-use Rattle.std.proofs.Common.{◌≡◌, ◌<◌, ◌++◌, true, false, None, length, get_or, set, map, sym, ap, ◌∙◌, arith, Bool}
+use Rattle.std.proofs.Common.{◌≡◌, ◌<◌, true, false, None, length, get_or, set, map, sym, ap, ◌∙◌, arith, Bool}
 use Rattle.std.specs.Prelude.{if◌then◌else◌}
 use Rattle.std.proofs.lemmas.List.Edits.{map_over_more}
 use Rattle.chv_defs.specs.BankBook.{BankBook, room_refusal}
@@ -30,6 +30,6 @@ loop-place-preserved c =
     ap (λ (b : BankBook). room_refusal b c.args.entries c.args.pages) same ∙ none_due c.room-answer.result (room_refusal at c.args.entries c.args.pages) made c.room-answer.ensures.answer in
     record {
       made = ap (λ (b : BankBook). set c.loop-place.banks c.loop-place.place b) (grown ∙ ap (with_places c.args.entries c.args.pages) (sym c.index-banks-place.is))
-      ∙ map_over_more (with_places c.args.entries c.args.pages) c.args.banks.now c.loop-place.banks c.loop-place.place d inside c.loop-place.invariant.made c.index-banks-place.is;
+          ∙ map_over_more (with_places c.args.entries c.args.pages) c.args.banks.now c.loop-place.banks c.loop-place.place d inside c.loop-place.invariant.made c.index-banks-place.is;
       due = sym (refusal_in-none c.args.banks.now c.loop-place.place c.args.entries c.args.pages d inside due) ∙ c.loop-place.invariant.due;
     }

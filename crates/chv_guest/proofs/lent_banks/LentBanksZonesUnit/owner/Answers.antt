@@ -1,4 +1,4 @@
-use Rattle.std.proofs.Common.{◌≡◌, ℕ, List, [], set, sym, ap, subst, ◌∙◌}
+use Rattle.std.proofs.Common.{◌≡◌, ℕ, List, [], sym, ap, subst, ◌∙◌}
 use Rattle.chv_defs.specs.BankBook.{BankBook}
 use Rattle.chv_defs.specs.LegalBank.{IsLegal, OwnerMay}
 use Rattle.chv_defs.specs.Zones.{OwnerMayAsk}
