@@ -1,10 +1,11 @@
 -- What a call leaves is well formed.
-use Rattle.std.proofs.Common.{◌≡◌, ◌≤◌, ◌<◌, ◌+◌, ◌*◌, ◌^◌, ◌↔◌, ℕ, Bool, true, false, List, [], ◌∷◌, ◌++◌, length, if◌then◌else◌, nat_lt, ◌==◌, None, Some, Option, refl, subst, arith}
+use Rattle.std.proofs.Common.{◌≡◌, ◌≤◌, ◌<◌, ◌+◌, ◌*◌, ◌^◌, ◌↔◌, ℕ, Bool, true, false, List, [], ◌∷◌, ◌++◌, length, if◌then◌else◌, nat_lt, ◌==◌, None, Some, Option, refl, subst, arith, filter}
 use Rattle.std.specs.Prelude.{sum_by, not, is_some, unwrap_or, ◌||◌}
 use Rattle.std.specs.List.{list_any}
 use Rattle.std.proofs.lemmas.Bool.Decides.{nat_tests}
 use Rattle.std.proofs.lemmas.List.Sums.{sum_by-cons}
 use Rattle.chv_defs.specs.declared.machine.Machine.{Machine}
+use Rattle.chv_defs.specs.declared.machine.Life.{Life}
 use Rattle.chv_defs.specs.declared.machine.Life.TheVariants as life
 use Rattle.chv_defs.specs.declared.config.Checked.{Checked}
 use Rattle.chv_defs.specs.declared.config.VmConfig.{VmConfig}
@@ -13,17 +14,18 @@ use Rattle.chv_defs.specs.declared.config.ZoneConfig.{ZoneConfig}
 use Rattle.chv_defs.specs.declared.config.DiskConfig.{DiskConfig}
 use Rattle.chv_defs.specs.declared.scene.OnShelf.{OnShelf}
 use Rattle.chv_defs.specs.declared.rule.Rule.{Rule}
-use Rattle.chv_defs.specs.declared.rule.Rule.TheVariants.{AlreadyCreated, NotCreated, SlotsFull}
-use Rattle.chv_defs.specs.declared.control.Goal.TheVariants.{Delete}
+use Rattle.chv_defs.specs.declared.rule.Rule.TheVariants.{AlreadyCreated, NotBuilt, NotCreated, SlotsFull}
+use Rattle.chv_defs.specs.declared.control.Goal.TheVariants.{Shutdown, Delete}
 use Rattle.chv_defs.specs.declared.control.ControlCall.{ControlCall}
 use Rattle.chv_defs.specs.declared.control.ControlCall.TheVariants as call
 use Rattle.chv_defs.specs.declared.control.ControlReply.{ControlReply}
 use Rattle.chv_defs.specs.declared.control.ControlReply.TheVariants as reply
-use Rattle.chv_defs.specs.Machine.{AreSessionsAbove, HasChecked, IsWellFormed}
-use Rattle.chv_defs.specs.ApiStep.{after, has_full_slots, has_id, is_uncreated, names_of, now_of, refusal_of, reply_to, rules_of, with_new_disk, with_number, without_disk}
+use Rattle.chv_defs.specs.Machine.{AreSessionsAbove, HasChecked, IsReached, IsWellFormed, RunsBare}
+use Rattle.chv_defs.specs.ApiStep.{after, device_count, has_full_slots, has_id, is_booted, is_uncreated, names_of, now_of, refusal_of, reply_to, rules_of, with_new_disk, with_number, without_disk}
 use Rattle.chv_defs.specs.ControlStep.{MayCall}
 use Rattle.chv_defs.specs.ConfigRules.{IsChecked, checked_of, config_rules, first_broken, further_disk_rules, has_zones, own_zone, zones_in_effect, verdict}
 use Rattle.chv_defs.specs.DefaultConfig.{default_config}
+use Rattle.chv_config.proofs.Fewer.{length-filter-le}
 use Rattle.chv_config.proofs.Recheck.{IsChecked-checked_of, IsChecked-filter, IsChecked-parts, IsChecked-with_disk}
 use Rattle.chv_ctl_api.proofs.Verdicts.{first_broken-parts, none-from_done, none-broken}
 
@@ -82,6 +84,24 @@ small_zones now checked =
     let parts = IsChecked-parts now checked in
     subst (λ (c : Checked). sum_by (λ (zone : ZoneConfig). zone.size) c.zones < 2 ^ 64) parts.1 (small_checked checked.names checked.config parts.0)
 
+-- a configuration that keeps the rules has at most 16 vCPUs at boot
+few_checked : (names : List (List ℕ)) (config : VmConfig) → verdict names config ≡ None → (checked_of config).config.cpus.boot ≤ 16
+few_checked names config none =
+    let broken = none-broken (config_rules names config) none in
+    few config.cpus.boot config.cpus.max broken.1.0 broken.1.1.0
+  where
+    few : (boot max : ℕ) → nat_lt max boot ≡ false → nat_lt 16 max ≡ false → boot ≤ 16
+    few boot max e f = grind (arith, nat_tests)
+
+few_vcpus : (now : Checked) → IsChecked now → now.config.cpus.boot ≤ 16
+few_vcpus now checked =
+    let parts = IsChecked-parts now checked in
+    subst (λ (c : Checked). c.config.cpus.boot ≤ 16) parts.1 (few_checked checked.names checked.config parts.0)
+
+-- so has the configuration that is there
+pub few_there : (config : Option Checked) (now : Checked) → config ≡ Some now → HasChecked config → now.config.cpus.boot ≤ 16
+few_there config now there checked = few_vcpus now (subst (λ (c : Option Checked). HasChecked c) there checked)
+
 -- so do those of the configuration that is there
 pub small_there : (config : Option Checked) (now : Checked) → config ≡ Some now → HasChecked config → sum_by (λ (zone : ZoneConfig). zone.size) now.zones < 2 ^ 64
 small_there config now there checked = small_zones now (subst (λ (c : Option Checked). HasChecked c) there checked)
@@ -110,10 +130,41 @@ created_first m rows none =
 checked_added : (shelf : List OnShelf) (m : Machine) (disk : DiskConfig) → HasChecked m.config → refusal_of shelf m (call.AddDisk disk) ≡ None → IsChecked (with_new_disk (now_of m) disk)
 checked_added shelf m disk checked none =
     let rules = further_disk_rules (names_of shelf) (now_of m) disk in
-    let slots : List (Bool × Rule) = (has_full_slots (now_of m), SlotsFull) ∷ [] in
+    let slots : List (Bool × Rule) = (has_full_slots (now_of m), SlotsFull) ∷ (is_booted m.life, NotBuilt) ∷ [] in
     let created = created_first m (rules ++ slots) none in
     let parts = first_broken-parts rules slots created.1 in
     checked_with m.config (checked_of default_config) (names_of shelf) disk created.0 checked parts.0 (none-broken slots parts.1).0
+
+-- a machine to which a disk is added is not booted
+unbooted_added : (shelf : List OnShelf) (m : Machine) (disk : DiskConfig) → refusal_of shelf m (call.AddDisk disk) ≡ None → is_booted m.life ≡ false
+unbooted_added shelf m disk none =
+    let rules = further_disk_rules (names_of shelf) (now_of m) disk in
+    let slots : List (Bool × Rule) = (has_full_slots (now_of m), SlotsFull) ∷ (is_booted m.life, NotBuilt) ∷ [] in
+    let created = created_first m (rules ++ slots) none in
+    (none-broken slots (first_broken-parts rules slots created.1).1).1.0
+
+-- of a machine that is not booted nothing is asked
+bare_unbooted : (l : Life) (now : Option Checked) → is_booted l ≡ false → RunsBare l now
+bare_unbooted life.None now e = tt
+bare_unbooted life.Created now e = tt
+bare_unbooted life.Running now e = cc
+bare_unbooted (life.Hold holder goal) now e = cc
+bare_unbooted life.Paused now e = cc
+bare_unbooted life.Shutdown now e = tt
+
+-- a removed disk makes no device
+bare_without : (l : Life) (config : Option Checked) (other : Checked) (id : List ℕ) → not (is_some config) ≡ false → RunsBare l config → RunsBare l (Some (without_disk (unwrap_or config other) id))
+bare_without life.Running (Some now) other id some bare = omega (arith, bare, length-filter-le (λ (disk : DiskConfig). not (has_id id disk)) now.config.disks)
+bare_without life.Running None other id some bare = cc
+bare_without life.None config other id some bare = tt
+bare_without life.Created config other id some bare = tt
+bare_without (life.Hold holder goal) config other id some bare = tt
+bare_without life.Paused config other id some bare = tt
+bare_without life.Shutdown config other id some bare = tt
+
+-- a machine that is there is not None's
+some_config : (m : Machine) → is_uncreated m ≡ false → m.config ≡ None → ⊥
+some_config m some none = let h : not (is_some {T = Checked} None) ≡ false = subst (λ (c : Option Checked). not (is_some c) ≡ false) none some in cc
 
 behind_created : (b : Bool) (found : Option Rule) → (if b then Some AlreadyCreated else found) ≡ None → found ≡ None
 behind_created true found e = cc
@@ -122,37 +173,50 @@ behind_created false found e = e
 kept : (shelf : List OnShelf) (m : Machine) (caller : ℕ) (c : ControlCall) (r : ControlReply) → r ≡ reply_to shelf m c → IsWellFormed m → MayCall m caller c → IsWellFormed (after m caller c r)
 kept shelf m caller (call.Create config) reply.Done e formed may = record {
   life_and_config = (λ x. absurd (cc), λ x. absurd (cc));
-  unbooted = tt;
+  reached = tt;
+  bare = tt;
   checked = IsChecked-checked_of (names_of shelf) config (behind_created (is_some m.config) (verdict (names_of shelf) config) (none-from_done (refusal_of shelf m (call.Create config)) e));
   sessions = formed.sessions;
 }
 kept shelf m caller (call.Begin Delete) reply.Done e formed may = record {
   life_and_config = (λ x. refl, λ x. refl);
-  unbooted = tt;
+  reached = tt;
+  bare = tt;
   checked = tt;
+  sessions = formed.sessions;
+}
+kept shelf m caller (call.Begin Shutdown) reply.Done e formed may = record {
+  life_and_config = (λ x. absurd (cc), λ x. absurd (some_config m ((none-broken (rules_of shelf m (call.Begin Shutdown)) (none-from_done (refusal_of shelf m (call.Begin Shutdown)) e)).0) x));
+  reached = tt;
+  bare = tt;
+  checked = formed.checked;
   sessions = formed.sessions;
 }
 kept shelf m caller (call.AddDisk disk) reply.Done e formed may = record {
   life_and_config = some_left m _ formed ((none-broken (rules_of shelf m (call.AddDisk disk)) (none-from_done (refusal_of shelf m (call.AddDisk disk)) e)).0);
-  unbooted = formed.unbooted;
+  reached = formed.reached;
+  bare = bare_unbooted m.life _ (unbooted_added shelf m disk (none-from_done (refusal_of shelf m (call.AddDisk disk)) e));
   checked = checked_added shelf m disk formed.checked (none-from_done (refusal_of shelf m (call.AddDisk disk)) e);
   sessions = formed.sessions;
 }
 kept shelf m caller (call.Remove id) reply.Done e formed may = record {
   life_and_config = some_left m _ formed ((none-broken (rules_of shelf m (call.Remove id)) (none-from_done (refusal_of shelf m (call.Remove id)) e)).0);
-  unbooted = formed.unbooted;
+  reached = formed.reached;
+  bare = bare_without m.life m.config (checked_of default_config) id ((none-broken (rules_of shelf m (call.Remove id)) (none-from_done (refusal_of shelf m (call.Remove id)) e)).0) formed.bare;
   checked = checked_without m.config (checked_of default_config) id ((none-broken (rules_of shelf m (call.Remove id)) (none-from_done (refusal_of shelf m (call.Remove id)) e)).0) formed.checked;
   sessions = formed.sessions;
 }
 kept shelf m caller call.Bye reply.Done e formed may = record {
   life_and_config = formed.life_and_config;
-  unbooted = formed.unbooted;
+  reached = formed.reached;
+  bare = formed.bare;
   checked = formed.checked;
   sessions = AreSessionsAbove-with_number 0 caller m.ended formed.sessions (omega arith) may.0.1;
 }
 kept shelf m caller call.Stop reply.Done e formed may = record {
   life_and_config = formed.life_and_config;
-  unbooted = formed.unbooted;
+  reached = formed.reached;
+  bare = formed.bare;
   checked = formed.checked;
   sessions = formed.sessions;
 }

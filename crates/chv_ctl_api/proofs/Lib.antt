@@ -3,3 +3,4 @@ pub mod Kept
 pub mod Ids
 pub mod WithNumber
 pub mod Fits
+pub mod Numbers

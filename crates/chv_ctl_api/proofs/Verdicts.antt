@@ -7,12 +7,12 @@ use Rattle.chv_defs.specs.declared.config.VmConfig.{VmConfig}
 use Rattle.chv_defs.specs.declared.config.DiskConfig.{DiskConfig}
 use Rattle.chv_defs.specs.declared.scene.OnShelf.{OnShelf}
 use Rattle.chv_defs.specs.declared.rule.Rule.{Rule}
-use Rattle.chv_defs.specs.declared.rule.Rule.TheVariants.{SlotsFull}
+use Rattle.chv_defs.specs.declared.rule.Rule.TheVariants.{NotBuilt, SlotsFull}
 use Rattle.chv_defs.specs.declared.control.ControlCall.TheVariants as call
 use Rattle.chv_defs.specs.declared.control.ControlReply.{ControlReply}
 use Rattle.chv_defs.specs.declared.control.ControlReply.TheVariants as reply
 use Rattle.chv_defs.specs.ConfigRules.{first_broken, further_disk_rules, unless_refused, verdict}
-use Rattle.chv_defs.specs.ApiStep.{has_full_slots, names_of, refusal_of, refused_or, reply_to}
+use Rattle.chv_defs.specs.ApiStep.{has_full_slots, is_booted, names_of, refusal_of, refused_or, reply_to}
 
 -- where the success is answered, no rule is broken
 pub none-from_done : (found : Option Rule) → reply.Done ≡ refused_or found reply.Done → found ≡ None
@@ -61,30 +61,31 @@ reply_to-create shelf m config found none e =
     let P : Option Checked → Type 0 = λ c. reply_to shelf (record m { config = c }) (call.Create config) ≡ refused_or found reply.Done in
     subst P (sym none) (ap (λ f. refused_or f reply.Done) e)
 
--- what the rules on a further disk and on the slots come to
-abbrev pub slots_full : Option Rule → Bool → Option Rule
-slots_full (Some rule) full = Some rule
-slots_full None full = if full then Some SlotsFull else None
+-- what the rules on a further disk, on the slots, and on a machine that is booted come to
+abbrev pub slots_full : Option Rule → Bool → Bool → Option Rule
+slots_full (Some rule) full booted = Some rule
+slots_full None full booted = if full then Some SlotsFull else (if booted then Some NotBuilt else None)
 
 -- the answer to an AddDisk, where there is a machine
-pub reply_to-add : (shelf : List OnShelf) (m : Machine) (now : Checked) (disk : DiskConfig) (found : Option Rule) → m.config ≡ Some now → first_broken (further_disk_rules (names_of shelf) now disk) ≡ found → reply_to shelf m (call.AddDisk disk) ≡ refused_or (slots_full found (has_full_slots now)) reply.Done
+pub reply_to-add : (shelf : List OnShelf) (m : Machine) (now : Checked) (disk : DiskConfig) (found : Option Rule) → m.config ≡ Some now → first_broken (further_disk_rules (names_of shelf) now disk) ≡ found → reply_to shelf m (call.AddDisk disk) ≡ refused_or (slots_full found (has_full_slots now) (is_booted m.life)) reply.Done
 reply_to-add shelf m now disk None there e =
-    let P : Option Checked → Type 0 = λ c. reply_to shelf (record m { config = c }) (call.AddDisk disk) ≡ refused_or (slots_full None (has_full_slots now)) reply.Done in
-    subst P (sym there) (ap (λ f. refused_or f reply.Done) (first_broken-rest (further_disk_rules (names_of shelf) now disk) ((has_full_slots now, SlotsFull) ∷ []) e))
+    let P : Option Checked → Type 0 = λ c. reply_to shelf (record m { config = c }) (call.AddDisk disk) ≡ refused_or (slots_full None (has_full_slots now) (is_booted m.life)) reply.Done in
+    subst P (sym there) (ap (λ f. refused_or f reply.Done) (first_broken-rest (further_disk_rules (names_of shelf) now disk) ((has_full_slots now, SlotsFull) ∷ (is_booted m.life, NotBuilt) ∷ []) e))
 reply_to-add shelf m now disk (Some rule) there e =
     let P : Option Checked → Type 0 = λ c. reply_to shelf (record m { config = c }) (call.AddDisk disk) ≡ reply.Ruled rule in
-    subst P (sym there) (ap (λ f. refused_or f reply.Done) (first_broken-found (further_disk_rules (names_of shelf) now disk) ((has_full_slots now, SlotsFull) ∷ []) rule e))
+    subst P (sym there) (ap (λ f. refused_or f reply.Done) (first_broken-found (further_disk_rules (names_of shelf) now disk) ((has_full_slots now, SlotsFull) ∷ (is_booted m.life, NotBuilt) ∷ []) rule e))
 
 -- the answer to a Create, by what the check came to
 pub answer-checked : {T : Type 0} (found : Option Rule) (value : T) (checked : Result T Rule) (answer : ControlReply) → checked ≡ unless_refused found value → MatchResult checked (λ _. answer ≡ reply.Done) (λ rule. answer ≡ reply.Ruled rule) → answer ≡ refused_or found reply.Done
 answer-checked None value checked answer is met = subst (λ c. MatchResult c (λ _. answer ≡ reply.Done) (λ rule. answer ≡ reply.Ruled rule)) is met
 answer-checked (Some rule) value checked answer is met = subst (λ c. MatchResult c (λ _. answer ≡ reply.Done) (λ rule. answer ≡ reply.Ruled rule)) is met
 
--- the answer to an AddDisk, by what the check and the slots came to
-pub answer-named : {T : Type 0} (found : Option Rule) (slots : Bool) (value : T) (named : Result T Rule) (full : Bool) (answer : ControlReply) → named ≡ unless_refused found value → full ≡ slots → MatchResult named (λ _. answer ≡ (if full then reply.Ruled SlotsFull else reply.Done)) (λ rule. answer ≡ reply.Ruled rule) → answer ≡ refused_or (slots_full found slots) reply.Done
-answer-named None true value named full answer is same met = cc (subst (λ c. MatchResult c (λ _. answer ≡ (if full then reply.Ruled SlotsFull else reply.Done)) (λ rule. answer ≡ reply.Ruled rule)) is met, same)
-answer-named None false value named full answer is same met = cc (subst (λ c. MatchResult c (λ _. answer ≡ (if full then reply.Ruled SlotsFull else reply.Done)) (λ rule. answer ≡ reply.Ruled rule)) is met, same)
-answer-named (Some rule) slots value named full answer is same met = subst (λ c. MatchResult c (λ _. answer ≡ (if full then reply.Ruled SlotsFull else reply.Done)) (λ rule. answer ≡ reply.Ruled rule)) is met
+-- the answer to an AddDisk, by what the check, the slots and the machine's life came to
+pub answer-named : {T : Type 0} (found : Option Rule) (slots life : Bool) (value : T) (named : Result T Rule) (full booted : Bool) (answer : ControlReply) → named ≡ unless_refused found value → full ≡ slots → booted ≡ life → MatchResult named (λ _. answer ≡ (if full then reply.Ruled SlotsFull else (if booted then reply.Ruled NotBuilt else reply.Done))) (λ rule. answer ≡ reply.Ruled rule) → answer ≡ refused_or (slots_full found slots life) reply.Done
+answer-named None true life value named full booted answer is same so met = cc (subst (λ c. MatchResult c (λ _. answer ≡ (if full then reply.Ruled SlotsFull else (if booted then reply.Ruled NotBuilt else reply.Done))) (λ rule. answer ≡ reply.Ruled rule)) is met, same)
+answer-named None false true value named full booted answer is same so met = cc (subst (λ c. MatchResult c (λ _. answer ≡ (if full then reply.Ruled SlotsFull else (if booted then reply.Ruled NotBuilt else reply.Done))) (λ rule. answer ≡ reply.Ruled rule)) is met, same, so)
+answer-named None false false value named full booted answer is same so met = cc (subst (λ c. MatchResult c (λ _. answer ≡ (if full then reply.Ruled SlotsFull else (if booted then reply.Ruled NotBuilt else reply.Done))) (λ rule. answer ≡ reply.Ruled rule)) is met, same, so)
+answer-named (Some rule) slots life value named full booted answer is same so met = subst (λ c. MatchResult c (λ _. answer ≡ (if full then reply.Ruled SlotsFull else (if booted then reply.Ruled NotBuilt else reply.Done))) (λ rule. answer ≡ reply.Ruled rule)) is met
 
 -- there is no value where there is not some
 pub none-from_not_some : {T : Type 0} (c : Option T) → false ≡ is_some c → c ≡ None
@@ -100,7 +101,7 @@ value-from_ok (Some rule) value x e = cc
 pub none-from_added : (shelf : List OnShelf) (m : Machine) (now : Checked) (disk : DiskConfig) → m.config ≡ Some now → refusal_of shelf m (call.AddDisk disk) ≡ None → first_broken (further_disk_rules (names_of shelf) now disk) ≡ None
 none-from_added shelf m now disk there e =
     let P : Option Checked → Type 0 = λ c. refusal_of shelf (record m { config = c }) (call.AddDisk disk) ≡ None in
-    (first_broken-parts (further_disk_rules (names_of shelf) now disk) ((has_full_slots now, SlotsFull) ∷ []) (subst P there e)).0
+    (first_broken-parts (further_disk_rules (names_of shelf) now disk) ((has_full_slots now, SlotsFull) ∷ (is_booted m.life, NotBuilt) ∷ []) (subst P there e)).0
 
 -- what follows from a fact of a success is a fact of it
 pub OnOk-map : {T E P Q : Type 0} (r : Result T E) → (P → Q) → OnOk r P → OnOk r Q

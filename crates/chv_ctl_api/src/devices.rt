@@ -1,15 +1,17 @@
-// Disks are added to a machine that is not booted, and devices are removed from it.
+// Disks are added to a machine, and devices are removed from it, while it is not booted.
 ghost use Rattle.std.specs.Prelude.{◌≡◌, ◌≢◌, [], ◌∷◌, filter, if◌then◌else◌, length, not, None, Some, IfOk, OnOk, OnErr, MatchResult};
 ghost use Rattle.std.specs.Str.{bytes_eq};
 ghost use Rattle.chv_defs.specs.declared.control.ControlCall.TheVariants.{AddDisk, Remove};
 ghost use Rattle.chv_defs.specs.declared.control.ControlReply.TheVariants.{Ruled, Done};
-ghost use Rattle.chv_defs.specs.declared.rule.Rule.TheVariants.{SlotsFull};
-ghost use Rattle.chv_defs.specs.ApiStep.{has_full_slots, has_id, names_of, now_of, refusal_of, reply_to, with_new_disk, without_disk};
+ghost use Rattle.chv_defs.specs.declared.rule.Rule.TheVariants.{NotBuilt, SlotsFull};
+ghost use Rattle.chv_defs.specs.ApiStep.{has_full_slots, has_id, is_booted, names_of, now_of, refusal_of, reply_to, with_new_disk, without_disk};
 ghost use Rattle.chv_defs.specs.ConfigRules.{given_ids, grows, has_text, memory_device_id, memory_device_ids, with_disk};
 
 use crate::shelf::names_of;
 use chv_config::check_disk;
-use chv_defs::{Checked, ControlReply, DiskConfig, Machine, OnShelf, Row, Rule, Text, ZoneConfig};
+use chv_defs::{
+    Checked, ControlReply, DiskConfig, Life, Machine, OnShelf, Row, Rule, Text, ZoneConfig,
+};
 use std::alloc::{AllocError, Global};
 use std::mem;
 
@@ -30,18 +32,28 @@ pub fn answer_add_disk(
     };
     let names = names_of(alloc, shelf)?;
     let named = check_disk(alloc, checked, disk, &names)?;
-    Ok(answer_named(named, has_full_slots(checked)))
+    Ok(answer_named(named, has_full_slots(checked), is_booted(machine.life)))
 }
 
 // The answer to an AddDisk whose disk was checked so.
-fn answer_named<T: Drop>(named: Result<T, Rule>, full: bool) -> ControlReply
-    ensures { MatchResult named (λ _. result ≡ (if full then Ruled SlotsFull else Done)) (λ rule. result ≡ Ruled rule) }
+fn answer_named<T: Drop>(named: Result<T, Rule>, full: bool, booted: bool) -> ControlReply
+    ensures { MatchResult named
+        (λ _. result ≡ (if full then Ruled SlotsFull else (if booted then Ruled NotBuilt else Done)))
+        (λ rule. result ≡ Ruled rule) }
 {
     match named {
         Err(rule) => ControlReply::Ruled(rule),
         Ok(_) if full => ControlReply::Ruled(Rule::SlotsFull),
+        Ok(_) if booted => ControlReply::Ruled(Rule::NotBuilt),
         Ok(_) => ControlReply::Done,
     }
+}
+
+// Whether the machine is booted.
+fn is_booted(life: Life) -> bool
+    ensures { result ≡ is_booted life }
+{
+    matches!(life, Life::Running | Life::Hold { .. } | Life::Paused)
 }
 
 // Whether all slots would be used at boot.

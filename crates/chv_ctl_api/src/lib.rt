@@ -1,4 +1,4 @@
-//! The calls of the API on a machine that is not booted: what each is answered, and what it leaves.
+//! The calls of the API on a machine that is not booted, or runs and has no device: what each is answered, and what it leaves.
 #![tactic(auto)]
 
 mod creation;
@@ -7,6 +7,7 @@ mod ended;
 mod laws;
 mod life;
 mod queries;
+mod resize;
 mod shelf;
 mod step;
 

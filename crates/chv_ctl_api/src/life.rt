@@ -1,15 +1,16 @@
-// Calls on a machine's life. So far no machine is booted, and what only a booted machine does is refused.
+// Calls on a machine's life.
 ghost use Rattle.std.specs.Prelude.{◌≡◌, if◌then◌else◌};
 ghost use Rattle.chv_defs.specs.declared.control.ControlReply.TheVariants.{Ruled, Done};
 ghost use Rattle.chv_defs.specs.declared.rule.Rule.TheVariants.{NotCreated};
 ghost use Rattle.chv_defs.specs.Machine.{IsWellFormed};
-ghost use Rattle.chv_defs.specs.ApiStep.{is_uncreated, reply_to};
-ghost use Rattle.chv_defs.specs.declared.control.ControlCall.TheVariants.{Begin, Restore};
+ghost use Rattle.chv_defs.specs.ApiStep.{is_running, is_uncreated, reply_to};
+ghost use Rattle.chv_defs.specs.declared.control.ControlCall.TheVariants.{Begin, Boot, Restore};
+ghost use Rattle.chv_defs.specs.declared.control.Goal.TheVariants.{Pause, Shutdown};
 ghost use Rattle.chv_ctl_api.specs.ApiCalls.{refused_by};
 
-use chv_defs::{ControlReply, Goal, Machine, Name, OnShelf, Row, Rule};
+use chv_defs::{ControlReply, Goal, Life, Machine, Name, OnShelf, Row, Rule};
 
-/// The refusal of what a machine that is not booted does not do: there is no machine, or else this rule is broken.
+/// A refusal: there is no machine, or else this rule is broken.
 pub fn refuse(machine: &Machine, rule: Rule) -> ControlReply
     ensures { result ≡ refused_by machine.now rule }
 {
@@ -19,16 +20,54 @@ pub fn refuse(machine: &Machine, rule: Rule) -> ControlReply
     }
 }
 
-/// The answer to a Begin. A machine that is not booted is deleted at once.
+/// Whether the machine runs.
+pub fn is_running(life: Life) -> bool
+    ensures { result ≡ is_running life }
+{
+    matches!(life, Life::Running)
+}
+
+/// The answer to a Boot.
+pub fn answer_boot(machine: &Machine, shelf: &Row<OnShelf>) -> ControlReply
+    requires { IsWellFormed machine.now }
+    ensures { result ≡ reply_to shelf.now machine.now Boot }
+{
+    if is_running(machine.life) {
+        return refuse(machine, Rule::AlreadyBooted);
+    }
+    refuse(machine, Rule::NotBuilt)
+}
+
+/// The answer to a Begin. No processor is out of a machine so far, so that its goal is reached at once.
 pub fn answer_begin(machine: &Machine, shelf: &Row<OnShelf>, goal: Goal) -> ControlReply
     requires { IsWellFormed machine.now }
     ensures { result ≡ reply_to shelf.now machine.now (Begin goal) }
 {
     match goal {
-        Goal::Pause => refuse(machine, Rule::NotRunning),
-        Goal::Shutdown => refuse(machine, Rule::NotBooted),
+        Goal::Pause => answer_pause(machine, shelf),
+        Goal::Shutdown => answer_shutdown(machine, shelf),
         Goal::Delete => answer_delete(machine),
     }
+}
+
+fn answer_pause(machine: &Machine, shelf: &Row<OnShelf>) -> ControlReply
+    requires { IsWellFormed machine.now }
+    ensures { result ≡ reply_to shelf.now machine.now (Begin Pause) }
+{
+    if is_running(machine.life) {
+        return refuse(machine, Rule::NotBuilt);
+    }
+    refuse(machine, Rule::NotRunning)
+}
+
+fn answer_shutdown(machine: &Machine, shelf: &Row<OnShelf>) -> ControlReply
+    requires { IsWellFormed machine.now }
+    ensures { result ≡ reply_to shelf.now machine.now (Begin Shutdown) }
+{
+    if is_running(machine.life) {
+        return ControlReply::Done;
+    }
+    refuse(machine, Rule::NotBooted)
 }
 
 fn answer_delete(machine: &Machine) -> ControlReply

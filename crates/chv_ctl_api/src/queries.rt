@@ -1,11 +1,13 @@
 // What `vm.info` shows.
-ghost use Rattle.std.specs.Prelude.{◌≡◌, ◌≢◌, ◌<◌, ◌^◌, None, IfOk, map, sum_by};
+ghost use Rattle.std.specs.Prelude.{◌≡◌, ◌≢◌, ◌<◌, ◌≤◌, ◌^◌, None, IfOk, map, sum_by};
+ghost use Rattle.std.specs.List.{range_with_len};
 ghost use Rattle.chv_defs.specs.Machine.{IsWellFormed};
-ghost use Rattle.chv_defs.specs.Shown.{shown, shown_before_boot, shown_state, zone_before_boot};
+ghost use Rattle.chv_defs.specs.Shown.{present, shown, shown_as, shown_state, shown_zone};
 ghost use Rattle.chv_defs.specs.ApiStep.{reply_to};
 ghost use Rattle.chv_defs.specs.declared.config.ZoneConfig.{ZoneConfig};
 ghost use Rattle.chv_defs.specs.declared.control.ControlCall.TheVariants as call;
 
+use crate::life::{is_running, refuse};
 use chv_defs::{
     Checked, ControlReply, Info, Life, Machine, OnShelf, Row, Rule, ShownState, ZoneConfig,
     ZoneInfo, copy_of,
@@ -27,6 +29,17 @@ pub fn answer_info(
     Ok(ControlReply::Shown(show(alloc, machine)?))
 }
 
+/// The answer to Counters. No disk is placed in a machine that runs, so that none is counted.
+pub fn answer_counters(alloc: Global, machine: &Machine, shelf: &Row<OnShelf>) -> ControlReply
+    requires { IsWellFormed machine.now }
+    ensures { result ≡ reply_to shelf.now machine.now call.Counters }
+{
+    if is_running(machine.life) {
+        return ControlReply::Counted(Row::empty(alloc));
+    }
+    refuse(machine, Rule::NotBooted)
+}
+
 /// What is shown of a machine that has a configuration.
 pub fn show(alloc: Global, machine: &Machine) -> Result<Info, AllocError>
     requires formed { IsWellFormed machine.now }
@@ -34,23 +47,46 @@ pub fn show(alloc: Global, machine: &Machine) -> Result<Info, AllocError>
     ensures { IfOk result (λ info. info ≡ shown machine.now) }
 {
     match &machine.config {
-        Some(checked) => show_before_boot(alloc, state_of(machine.life), checked),
+        Some(checked) => show_as(alloc, state_of(machine.life), checked),
         None => unreachable!(),
     }
 }
 
-fn show_before_boot(alloc: Global, state: ShownState, checked: &Checked) -> Result<Info, AllocError>
-    requires { sum_by (λ (zone : ZoneConfig). zone.size) checked.now.zones < 2 ^ 64 }
-    ensures { IfOk result (λ info. info ≡ shown_before_boot state checked.now) }
+fn show_as(alloc: Global, state: ShownState, checked: &Checked) -> Result<Info, AllocError>
+    requires sizes { sum_by (λ (zone : ZoneConfig). zone.size) checked.now.zones < 2 ^ 64 }
+    requires vcpus { checked.now.config.cpus.boot ≤ 16 }
+    ensures { IfOk result (λ info. info ≡ shown_as state checked.now) }
 {
     Ok(Info {
         config: copy_of(&checked.config)?,
         devices: Row::empty(alloc),
         actual_size: total_size(checked.zones.as_slice()),
         state,
-        vcpus: Row::empty(alloc),
+        vcpus: present(alloc, state, checked.config.cpus.boot)?,
         zones: zones_of(alloc, checked.zones.as_slice())?,
     })
+}
+
+// The vCPUs that are present in a state, where so many are present at boot.
+fn present(alloc: Global, state: ShownState, boot: u64) -> Result<Row<u8>, AllocError>
+    requires { boot ≤ 16 }
+    ensures { IfOk result (λ vcpus. vcpus ≡ present state boot) }
+{
+    match state {
+        ShownState::Running | ShownState::Paused => below(alloc, boot as u8),
+        ShownState::Created | ShownState::Shutdown => Ok(Row::empty(alloc)),
+    }
+}
+
+// The numbers below this one, ascending.
+fn below(alloc: Global, count: u8) -> Result<Row<u8>, AllocError>
+    ensures { IfOk result (λ numbers. numbers ≡ range_with_len 0 count) }
+{
+    let mut numbers = Row::empty(alloc);
+    for number in 0..count {
+        numbers.push(number)?;
+    }
+    Ok(numbers)
 }
 
 fn state_of(life: Life) -> ShownState
@@ -72,7 +108,7 @@ fn total_size(zones: &[ZoneConfig]) -> u64
 }
 
 fn zones_of(alloc: Global, zones: &[ZoneConfig]) -> Result<Row<ZoneInfo>, AllocError>
-    ensures { IfOk result (λ shown. shown ≡ map zone_before_boot zones.now) }
+    ensures { IfOk result (λ shown. shown ≡ map shown_zone zones.now) }
 {
     let mut shown = Row::empty(alloc);
     for zone in zones {
@@ -82,7 +118,7 @@ fn zones_of(alloc: Global, zones: &[ZoneConfig]) -> Result<Row<ZoneInfo>, AllocE
 }
 
 fn zone_of(zone: &ZoneConfig) -> Result<ZoneInfo, AllocError>
-    ensures { IfOk result (λ info. info ≡ zone_before_boot zone.now) }
+    ensures { IfOk result (λ info. info ≡ shown_zone zone.now) }
 {
     Ok(ZoneInfo {
         id: zone.id.clone()?,

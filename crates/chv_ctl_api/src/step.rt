@@ -1,6 +1,7 @@
 // One step of the API.
 ghost use Rattle.std.specs.Prelude.{◌≡◌, true, IsOk, IfOk, OnOk, OnErr};
 ghost use Rattle.chv_defs.specs.declared.control.ControlCall.TheVariants.{Stop};
+ghost use Rattle.chv_defs.specs.declared.machine.Life.TheVariants as life;
 ghost use Rattle.chv_defs.specs.Machine.{IsWellFormed};
 ghost use Rattle.chv_defs.specs.ApiStep.{after, reply_to};
 ghost use Rattle.chv_defs.specs.ControlStep.{MayCall};
@@ -9,9 +10,10 @@ ghost use Rattle.chv_ctl_api.specs.ApiCalls.{IsApiCall};
 use crate::creation::{answer_create, create, delete};
 use crate::devices::{add_disk, answer_add_disk, answer_remove, remove_disk};
 use crate::ended::end_session;
-use crate::life::{answer_begin, answer_restore, refuse};
-use crate::queries::answer_info;
-use chv_defs::{ControlCall, ControlReply, Goal, Machine, OnShelf, Row, Rule};
+use crate::life::{answer_begin, answer_boot, answer_restore, refuse};
+use crate::queries::{answer_counters, answer_info};
+use crate::resize::{answer_resize, answer_resize_zone};
+use chv_defs::{ControlCall, ControlReply, Goal, Life, Machine, OnShelf, Row, Rule};
 use std::alloc::{AllocError, Global};
 
 /// The answer to a call of a session or to a Stop, where these disks stand by: the first rule of the call that is broken, or
@@ -35,9 +37,11 @@ pub fn api_reply(
         ControlCall::Remove(id) => Ok(answer_remove(machine, shelf, id)),
         ControlCall::Begin(goal) => Ok(answer_begin(machine, shelf, *goal)),
         ControlCall::Restore(name) => Ok(answer_restore(machine, shelf, name)),
-        ControlCall::Boot => Ok(refuse(machine, Rule::NotBuilt)),
-        ControlCall::Counters | ControlCall::Resize { .. } | ControlCall::ResizeZone { .. } => {
-            Ok(refuse(machine, Rule::NotBooted))
+        ControlCall::Boot => Ok(answer_boot(machine, shelf)),
+        ControlCall::Counters => Ok(answer_counters(alloc, machine, shelf)),
+        ControlCall::Resize { vcpus, ram } => Ok(answer_resize(machine, shelf, *vcpus, *ram)),
+        ControlCall::ResizeZone { zone, ram } => {
+            Ok(answer_resize_zone(machine, shelf, zone, *ram))
         }
         ControlCall::Resume | ControlCall::Snapshot(_) => Ok(refuse(machine, Rule::NotPaused)),
         _ => unreachable!(),
@@ -60,6 +64,7 @@ pub fn api_leave(
 {
     match (call, reply) {
         (ControlCall::Create(config), ControlReply::Done) => create(alloc, machine, shelf, config),
+        (ControlCall::Begin(Goal::Shutdown), ControlReply::Done) => Ok(shut_down(machine)),
         (ControlCall::Begin(Goal::Delete), ControlReply::Done) => Ok(delete(machine)),
         (ControlCall::AddDisk(disk), ControlReply::Done) => add_disk(alloc, machine, shelf, disk),
         (ControlCall::Remove(id), ControlReply::Done) => Ok(remove_disk(alloc, machine, id)),
@@ -67,6 +72,12 @@ pub fn api_leave(
         (ControlCall::Stop, ControlReply::Done) => Ok(stop(machine)),
         _ => Ok(()),
     }
+}
+
+fn shut_down(machine: &mut Machine)
+    ensures { machine.new ≡ record machine.old { life = life.Shutdown } }
+{
+    machine.life = Life::Shutdown;
 }
 
 fn stop(machine: &mut Machine)

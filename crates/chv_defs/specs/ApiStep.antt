@@ -1,23 +1,25 @@
--- The calls of the API on a machine that is not booted: by which rule a call is refused, what it is answered, and what it
--- leaves. The calls are those of the Cloud Hypervisor REST API v1; the rules and their order are this project's own. Boot
--- and Restore are not built yet: where none of their rules holds, they are refused as NotBuilt.
-use Rattle.std.specs.Prelude.{ℕ, ◌+◌, ◌==◌, Bool, true, false, not, nat_le, nat_lt, List, [], ◌∷◌, ◌++◌, length, map, filter, Option, Some, None, is_some, unwrap_or, if◌then◌else◌}
+-- The calls of the API on a machine that is not booted, or that runs and has no device: by which rule a call is refused, what
+-- it is answered, and what it leaves. The calls are those of the Cloud Hypervisor REST API v1; the rules and their order are
+-- this project's own. Not built yet are a boot, a restore, and the pause of a machine that runs, its resizing and the adding of
+-- a disk to it: where none of their rules holds, they are refused as NotBuilt.
+use Rattle.std.specs.Prelude.{ℕ, ◌+◌, ◌==◌, ◌&&◌, ◌||◌, Bool, true, false, not, nat_le, nat_lt, List, [], ◌∷◌, ◌++◌, length, map, filter, find, Option, Some, None, is_some, unwrap_or, if◌then◌else◌}
 use Rattle.std.specs.Str.{bytes_eq}
 use Rattle.chv_defs.specs.declared.machine.Machine.{Machine}
 use Rattle.chv_defs.specs.declared.machine.Life.{Life}
 use Rattle.chv_defs.specs.declared.machine.Life.TheVariants as life
 use Rattle.chv_defs.specs.declared.config.Checked.{Checked}
 use Rattle.chv_defs.specs.declared.config.DiskConfig.{DiskConfig}
+use Rattle.chv_defs.specs.declared.config.ZoneConfig.{ZoneConfig}
 use Rattle.chv_defs.specs.declared.scene.OnShelf.{OnShelf}
 use Rattle.chv_defs.specs.declared.rule.Rule.{Rule}
-use Rattle.chv_defs.specs.declared.rule.Rule.TheVariants.{NotCreated, AlreadyCreated, Held, NotBooted, AlreadyBooted, NotRunning, NotPaused, DeviceUnknown, DeviceFixed, SlotsFull, NotBuilt}
+use Rattle.chv_defs.specs.declared.rule.Rule.TheVariants.{NotCreated, AlreadyCreated, Held, NotBooted, AlreadyBooted, NotRunning, NotPaused, VcpuCount, ByZone, ZoneUnknown, RamRange, DeviceUnknown, DeviceFixed, SlotsFull, NotBuilt}
 use Rattle.chv_defs.specs.declared.control.Goal.TheVariants.{Pause, Shutdown, Delete}
 use Rattle.chv_defs.specs.declared.control.ControlCall.{ControlCall}
 use Rattle.chv_defs.specs.declared.control.ControlCall.TheVariants as call
 use Rattle.chv_defs.specs.declared.control.ControlReply.{ControlReply}
 use Rattle.chv_defs.specs.declared.control.ControlReply.TheVariants as reply
 use Rattle.chv_defs.specs.Shown.{shown}
-use Rattle.chv_defs.specs.ConfigRules.{checked_of, config_rules, device_ids, first_broken, further_disk_rules, grows, has_text, memory_device_ids, with_disk, with_id}
+use Rattle.chv_defs.specs.ConfigRules.{checked_of, config_rules, device_ids, first_broken, further_disk_rules, grows, has_text, has_zones, is_unaligned, memory_device_ids, own_zone, with_disk, with_id}
 use Rattle.chv_defs.specs.DefaultConfig.{default_config}
 
 -- ---- conditions
@@ -57,6 +59,13 @@ abbrev pub is_paused : Life → Bool
 is_paused life.Paused = true
 is_paused _ = false
 
+-- the machine is booted: it runs, waits for a pause, a shutdown or a delete, or is paused
+abbrev pub is_booted : Life → Bool
+is_booted life.Running = true
+is_booted (life.Hold holder goal) = true
+is_booted life.Paused = true
+is_booted _ = false
+
 -- The configuration. (It is asked of no state that has none.)
 abbrev pub now_of : Machine → Checked
 now_of m = unwrap_or m.config (checked_of default_config)
@@ -68,6 +77,28 @@ device_count now = length (filter grows now.zones) + length now.config.disks
 -- all 31 slots for devices would be used at boot
 abbrev pub has_full_slots : Checked → Bool
 has_full_slots now = nat_le 31 (device_count now)
+
+-- whether a number is given, and passes a test
+abbrev pub is_given_and : Option ℕ → (ℕ → Bool) → Bool
+is_given_and None test = false
+is_given_and (Some n) test = test n
+
+-- there cannot be so many vCPUs: none, or more than the configuration has at most
+abbrev pub is_bad_vcpu_count : Checked → ℕ → Bool
+is_bad_vcpu_count now count = count == 0 || nat_lt now.config.cpus.max count
+
+-- a zone cannot have so many bytes: fewer than its boot memory, more than it can grow to, or no whole number of blocks
+abbrev pub is_out_of_range : ZoneConfig → ℕ → Bool
+is_out_of_range zone ram = nat_lt ram zone.size || nat_lt (zone.size + zone.hotplug) ram || is_unaligned ram
+
+-- the configured zone of this id
+abbrev pub zone_named : Checked → List ℕ → Option ZoneConfig
+zone_named now id = find (λ (zone : ZoneConfig). bytes_eq zone.id id) now.config.memory.zones
+
+-- a zone that is there cannot have so many bytes
+abbrev pub is_zone_out_of_range : Option ZoneConfig → ℕ → Bool
+is_zone_out_of_range None ram = false
+is_zone_out_of_range (Some zone) ram = is_out_of_range zone ram
 
 -- ---- the rules of each call
 
@@ -93,6 +124,7 @@ rules_of shelf m (call.Begin Pause) =
     (is_uncreated m, NotCreated)
     ∷ (is_on_hold m.life, Held)
     ∷ (not (is_running m.life), NotRunning)
+    ∷ (true, NotBuilt)
     ∷ []
 rules_of shelf m (call.Begin Shutdown) =
     (is_uncreated m, NotCreated)
@@ -108,21 +140,29 @@ rules_of shelf m call.Resume =
     ∷ (is_on_hold m.life, Held)
     ∷ (not (is_paused m.life), NotPaused)
     ∷ []
--- (what else refuses a resize is asked of a machine that is booted)
+-- (whether a removal of vCPUs is pending is asked where one can be asked for)
 rules_of shelf m (call.Resize vcpus ram) =
     (is_uncreated m, NotCreated)
     ∷ (is_created_or_shut_down m.life, NotBooted)
+    ∷ (is_given_and vcpus (is_bad_vcpu_count (now_of m)), VcpuCount)
+    ∷ (is_some ram && has_zones (now_of m).config.memory, ByZone)
+    ∷ (is_given_and ram (is_out_of_range (own_zone (now_of m).config.memory)), RamRange)
+    ∷ (true, NotBuilt)
     ∷ []
 rules_of shelf m (call.ResizeZone zone ram) =
     (is_uncreated m, NotCreated)
     ∷ (is_created_or_shut_down m.life, NotBooted)
+    ∷ (not (is_some (zone_named (now_of m) zone)), ZoneUnknown)
+    ∷ (is_zone_out_of_range (zone_named (now_of m) zone) ram, RamRange)
+    ∷ (true, NotBuilt)
     ∷ []
 rules_of shelf m (call.AddDisk disk) =
     (is_uncreated m, NotCreated)
     ∷ (further_disk_rules (names_of shelf) (now_of m) disk
     ++ (has_full_slots (now_of m), SlotsFull)
+    ∷ (is_booted m.life, NotBuilt)
     ∷ [])
--- (whether its removal was asked already is asked of a machine that is booted)
+-- (whether its removal was asked already is asked where a device can be placed)
 rules_of shelf m (call.Remove id) =
     (is_uncreated m, NotCreated)
     ∷ (not (has_text (device_ids (now_of m)) id), DeviceUnknown)
@@ -138,7 +178,7 @@ rules_of shelf m (call.Restore name) =
     (is_some m.config, AlreadyCreated)
     ∷ (true, NotBuilt)
     ∷ []
--- (Ping, Bye and Stop are never refused; no other call is made of a machine that is not booted)
+-- (Ping, Bye and Stop are never refused; no other call is made of a machine that has no device and no script)
 rules_of shelf m _ = []
 
 -- the rule by which a call is refused: the first whose condition holds
@@ -150,6 +190,7 @@ refusal_of shelf m c = first_broken (rules_of shelf m c)
 -- the answer to a call that no rule refuses
 abbrev pub success_of : Machine → ControlCall → ControlReply
 success_of m call.Info = reply.Shown (shown m)
+success_of m call.Counters = reply.Counted []
 success_of m _ = reply.Done
 
 -- a refusal by rule, or else the success
@@ -183,6 +224,7 @@ with_new_disk now disk = with_disk now (with_id (device_ids now) disk)
 -- What a call leaves, with its answer. A call that is refused leaves the state as it was, and so does one that only asks.
 abbrev pub after : Machine → ℕ → ControlCall → ControlReply → Machine
 after m caller (call.Create config) reply.Done = record m { life = life.Created; config = Some (checked_of config) }
+after m caller (call.Begin Shutdown) reply.Done = record m { life = life.Shutdown }
 after m caller (call.Begin Delete) reply.Done = record m { life = life.None; config = None }
 after m caller (call.AddDisk disk) reply.Done = record m { config = Some (with_new_disk (now_of m) disk) }
 after m caller (call.Remove id) reply.Done = record m { config = Some (without_disk (now_of m) id) }

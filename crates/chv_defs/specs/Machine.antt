@@ -5,6 +5,7 @@ use Rattle.chv_defs.specs.declared.machine.Machine.{Machine}
 use Rattle.chv_defs.specs.declared.machine.Life.{Life}
 use Rattle.chv_defs.specs.declared.machine.Life.TheVariants as life
 use Rattle.chv_defs.specs.ConfigRules.{IsChecked}
+use Rattle.chv_defs.specs.ApiStep.{device_count}
 
 -- The empty state: there is no machine, and no session has ended.
 abbrev pub empty_machine : Machine
@@ -19,22 +20,31 @@ abbrev pub AreSessionsAbove : ℕ → List ℕ → Type 0
 AreSessionsAbove low [] = Unit {0}
 AreSessionsAbove low (caller ∷ callers) = (low < caller) × (caller ≤ 16) × AreSessionsAbove caller callers
 
--- There is no machine, or it was created or shut down: it is not booted. Booting is not built yet.
-abbrev pub IsUnbooted : Life → Type 0
-IsUnbooted life.None = Unit {0}
-IsUnbooted life.Created = Unit {0}
-IsUnbooted life.Shutdown = Unit {0}
-IsUnbooted _ = ⊥
+-- There is no machine, or it was created, runs, or was shut down. Pausing is not built yet, so that no machine waits for a
+-- pause, a shutdown or a delete either.
+abbrev pub IsReached : Life → Type 0
+IsReached life.None = Unit {0}
+IsReached life.Created = Unit {0}
+IsReached life.Running = Unit {0}
+IsReached life.Shutdown = Unit {0}
+IsReached _ = ⊥
+
+-- A machine that runs has no device: no zone of it grows, and it has no disk. Devices that are placed are not built yet.
+abbrev pub RunsBare : Life → Option Checked → Type 0
+RunsBare life.Running (Some checked) = device_count checked ≡ 0
+RunsBare _ _ = Unit {0}
 
 -- The configuration, where there is one, is a checked one.
 abbrev pub HasChecked : Option Checked → Type 0
 HasChecked None = Unit {0}
 HasChecked (Some checked) = IsChecked checked
 
--- A control state is well formed where it has a configuration exactly where there is a machine, the machine is not
--- booted, its configuration is a checked one, and the ended ones are sessions, ascending.
+-- A control state is well formed where it has a configuration exactly where there is a machine, the machine is not paused and
+-- does not wait for it, it has no device where it runs, its configuration is a checked one, and the ended ones are sessions,
+-- ascending.
 pub record IsWellFormed (m : Machine) : Type 0 where
   pub life_and_config : (m.life ≡ life.None) ↔ (m.config ≡ None)
-  pub unbooted : IsUnbooted m.life
+  pub reached : IsReached m.life
+  pub bare : RunsBare m.life m.config
   pub checked : HasChecked m.config
   pub sessions : AreSessionsAbove 0 m.ended

@@ -1,6 +1,7 @@
 -- What `vm.info` shows of a control state. Its shape is this project's own; the configuration in it is the `VmConfig` of
 -- the Cloud Hypervisor REST API v1.
-use Rattle.std.specs.Prelude.{[], map, sum_by, unwrap_or}
+use Rattle.std.specs.Prelude.{ℕ, List, [], map, sum_by, unwrap_or}
+use Rattle.std.specs.List.{range_with_len}
 use Rattle.chv_defs.specs.declared.config.ZoneConfig.{ZoneConfig}
 use Rattle.chv_defs.specs.declared.config.Checked.{Checked}
 use Rattle.chv_defs.specs.declared.machine.Machine.{Machine}
@@ -22,22 +23,28 @@ shown_state (life.Hold holder goal) = state.Running
 shown_state life.Paused = state.Paused
 shown_state life.Shutdown = state.Shutdown
 
--- Before boot nothing of a zone is plugged, and what is asked for is its `hotplugged_size`.
-abbrev pub zone_before_boot : ZoneConfig → ZoneInfo
-zone_before_boot zone = record { id = zone.id; plugged_size = 0; requested_size = zone.hotplugged }
+-- Nothing of a zone is plugged so far, and what is asked for is its `hotplugged_size`.
+abbrev pub shown_zone : ZoneConfig → ZoneInfo
+shown_zone zone = record { id = zone.id; plugged_size = 0; requested_size = zone.hotplugged }
 
--- Before boot no device is placed and no vCPU is present. The actual size is that of the zones in effect.
-abbrev pub shown_before_boot : ShownState → Checked → Info
-shown_before_boot shown_as checked = record {
+-- The vCPUs that are present in a state, where so many are at boot: these while the machine runs, is paused or waits for it, and
+-- else none.
+abbrev pub present : ShownState → ℕ → List ℕ
+present state.Running boot = range_with_len 0 boot
+present state.Paused boot = range_with_len 0 boot
+present _ boot = []
+
+-- What is shown of a configuration in a state. The actual size is that of the zones in effect.
+abbrev pub shown_as : ShownState → Checked → Info
+shown_as shown checked = record {
   config = checked.config;
   devices = [];
   actual_size = sum_by (λ (zone : ZoneConfig). zone.size) checked.zones;
-  state = shown_as;
-  vcpus = [];
-  zones = map zone_before_boot checked.zones;
+  state = shown;
+  vcpus = present shown checked.config.cpus.boot;
+  zones = map shown_zone checked.zones;
 }
 
--- What is shown of a control state that has a configuration and is not booted, as every one is so far. (It is asked of
--- no other.)
+-- What is shown of a control state that has a configuration. (It is asked of no other.) No device is placed in any so far.
 abbrev pub shown : Machine → Info
-shown m = shown_before_boot (shown_state m.life) (unwrap_or m.config (checked_of default_config))
+shown m = shown_as (shown_state m.life) (unwrap_or m.config (checked_of default_config))

@@ -1,0 +1,12 @@
+-- Numbers that follow each other.
+use Rattle.std.proofs.Common.{◌≡◌, ℕ, ◌+◌, [], ◌∷◌, ◌++◌, map, sym, ◌∙◌, ap, refl}
+use Rattle.std.proofs.lemmas.List.{map-id}
+use Rattle.std.proofs.lemmas.List.FromFn.{map-range_with_len_more}
+use Rattle.std.specs.List.{range_with_len}
+
+-- one more number
+pub range_with_len-more : (a n : ℕ) → range_with_len a (n + 1) ≡ range_with_len a n ++ (a + n) ∷ []
+range_with_len-more a n =
+    sym (map-id (range_with_len a (n + 1)))
+    ∙ map-range_with_len_more (λ k. k) a n (a + n) refl
+    ∙ ap (λ xs. xs ++ (a + n) ∷ []) (map-id (range_with_len a n))
