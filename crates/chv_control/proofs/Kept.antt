@@ -3,7 +3,7 @@ use Rattle.std.proofs.Common.{◌≡◌, ◌≤◌, ◌<◌, ◌+◌, ℕ, Bool,
 use Rattle.std.specs.Prelude.{◌||◌, sum_by}
 use Rattle.std.proofs.lemmas.Bool.Decides.{nat_tests}
 use Rattle.chv_defs.specs.declared.bank.BookId.TheVariants.{Control}
-use Rattle.chv_defs.specs.declared.control.Goal.TheVariants.{Delete}
+use Rattle.chv_defs.specs.declared.control.Goal.TheVariants.{Shutdown, Delete}
 use Rattle.std.proofs.lemmas.List.Sums.{sum_by_push}
 use Rattle.chv_defs.specs.declared.machine.Machine.{Machine}
 use Rattle.chv_defs.specs.declared.bank.Full.{Full}
@@ -33,6 +33,7 @@ at_most a b e = grind (arith, nat_tests)
 stopped_after : (m : Machine) (caller : ℕ) (c : ControlCall) (r : ControlReply) → is_stop c ≡ false → (after m caller c r).stopped ≡ m.stopped
 stopped_after m caller call.Stop r other = cc
 stopped_after m caller (call.Create config) reply.Done other = refl
+stopped_after m caller (call.Begin Shutdown) reply.Done other = refl
 stopped_after m caller (call.Begin Delete) reply.Done other = refl
 stopped_after m caller (call.AddDisk disk) reply.Done other = refl
 stopped_after m caller (call.Remove id) reply.Done other = refl
@@ -79,7 +80,7 @@ IsKept-stop shelf m caller history kept none =
     let fits : length history + 1 ≤ most_entries = subst (λ b. length history + (if b then 0 else 1) ≤ most_entries) none kept.entries in
     record {
       legal = Leads-push shelf empty_machine m (record m { stopped = true }) history entry kept.legal (record { may = none; replied = refl; left = refl });
-      formed = record { life_and_config = kept.formed.life_and_config; unbooted = kept.formed.unbooted; checked = kept.formed.checked; sessions = kept.formed.sessions };
+      formed = record { life_and_config = kept.formed.life_and_config; reached = kept.formed.reached; bare = kept.formed.bare; checked = kept.formed.checked; sessions = kept.formed.sessions };
       entries = rw (length-append history (entry ∷ [])) (omega (arith, fits));
       bytes = subst (λ (n : ℕ). n ≤ most_payload) (sym (payload-stop caller history)) kept.bytes;
     }

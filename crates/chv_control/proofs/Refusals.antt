@@ -2,7 +2,7 @@
 use Rattle.std.proofs.Common.{◌≡◌, ℕ, Bool, true, false, List, [], ◌∷◌, filter, if◌then◌else◌, refl, sym, subst, ◌∙◌}
 use Rattle.chv_defs.specs.declared.machine.Machine.{Machine}
 use Rattle.chv_defs.specs.declared.scene.OnShelf.{OnShelf}
-use Rattle.chv_defs.specs.declared.control.Goal.TheVariants.{Delete}
+use Rattle.chv_defs.specs.declared.control.Goal.TheVariants.{Shutdown, Delete}
 use Rattle.chv_defs.specs.declared.control.ControlCall.{ControlCall}
 use Rattle.chv_defs.specs.declared.control.ControlCall.TheVariants as call
 use Rattle.chv_defs.specs.declared.control.ControlReply.{ControlReply}
@@ -14,6 +14,7 @@ use Rattle.chv_defs.specs.LegalControl.{Leads, is_accepting, is_accepted}
 
 after-Ruled : (m : Machine) (caller : ℕ) (c : ControlCall) (r : ControlReply) → is_accepting r ≡ false → after m caller c r ≡ m
 after-Ruled m caller (call.Create config) reply.Done h = cc
+after-Ruled m caller (call.Begin Shutdown) reply.Done h = cc
 after-Ruled m caller (call.Begin Delete) reply.Done h = cc
 after-Ruled m caller (call.AddDisk disk) reply.Done h = cc
 after-Ruled m caller (call.Remove id) reply.Done h = cc

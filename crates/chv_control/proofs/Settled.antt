@@ -16,6 +16,7 @@ use Rattle.chv_defs.specs.LegalControl.{Leads, answers_by, entries_by}
 
 no_success_holds : (m : Machine) (c : ControlCall) → is_holding (success_of m c) ≡ false
 no_success_holds m call.Info = refl
+no_success_holds m call.Counters = refl
 no_success_holds m c = refl
 
 refused_or-settled : (found : Option Rule) (success : ControlReply) → is_holding success ≡ false → is_holding (refused_or found success) ≡ false

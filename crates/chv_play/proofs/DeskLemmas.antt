@@ -77,10 +77,11 @@ enters_no_other {D} shelf caller other old (a ∷ made) new differs enters =
     enters_no_other shelf caller other (entered old (entry_at shelf old caller a.call)) made new differs enters.2
     ∙ other_entry caller other old.history a.call (reply_to shelf old.machine a.call) differs
 
--- no answer of a machine that is not booted is Holding
+-- no answer is Holding so far
 not_holding : (m : Machine) (refusal : Option Rule) (c : ControlCall) → is_holding (refused_or refusal (success_of m c)) ≡ false
 not_holding m (Some rule) c = refl
 not_holding m None call.Info = refl
+not_holding m None call.Counters = refl
 not_holding m None c = refl
 
 pub never_holding : (shelf : List OnShelf) (m : Machine) (c : ControlCall) (r : ControlReply) → r ≡ reply_to shelf m c → is_holding r ≡ false
