@@ -80,7 +80,7 @@ IsKept-stop shelf m caller history kept none =
     let fits : length history + 1 ≤ most_entries = subst (λ b. length history + (if b then 0 else 1) ≤ most_entries) none kept.entries in
     record {
       legal = Leads-push shelf empty_machine m (record m { stopped = true }) history entry kept.legal (record { may = none; replied = refl; left = refl });
-      formed = record { life_and_config = kept.formed.life_and_config; reached = kept.formed.reached; bare = kept.formed.bare; checked = kept.formed.checked; sessions = kept.formed.sessions };
+      formed = record { life_and_config = kept.formed.life_and_config; unpaused = kept.formed.unpaused; bare = kept.formed.bare; checked = kept.formed.checked; sessions = kept.formed.sessions };
       entries = rw (length-append history (entry ∷ [])) (omega (arith, fits));
       bytes = subst (λ (n : ℕ). n ≤ most_payload) (sym (payload-stop caller history)) kept.bytes;
     }

@@ -20,7 +20,7 @@ use Rattle.chv_defs.specs.declared.control.ControlCall.{ControlCall}
 use Rattle.chv_defs.specs.declared.control.ControlCall.TheVariants as call
 use Rattle.chv_defs.specs.declared.control.ControlReply.{ControlReply}
 use Rattle.chv_defs.specs.declared.control.ControlReply.TheVariants as reply
-use Rattle.chv_defs.specs.Machine.{AreSessionsAbove, HasChecked, IsReached, IsWellFormed, RunsBare}
+use Rattle.chv_defs.specs.Machine.{AreSessionsAbove, HasChecked, IsUnpaused, IsWellFormed, RunsBare}
 use Rattle.chv_defs.specs.ApiStep.{after, device_count, has_full_slots, has_id, is_booted, is_uncreated, names_of, now_of, refusal_of, reply_to, rules_of, with_new_disk, with_number, without_disk}
 use Rattle.chv_defs.specs.ControlStep.{MayCall}
 use Rattle.chv_defs.specs.ConfigRules.{IsChecked, checked_of, config_rules, first_broken, further_disk_rules, has_zones, own_zone, zones_in_effect, verdict}
@@ -173,49 +173,49 @@ behind_created false found e = e
 kept : (shelf : List OnShelf) (m : Machine) (caller : ℕ) (c : ControlCall) (r : ControlReply) → r ≡ reply_to shelf m c → IsWellFormed m → MayCall m caller c → IsWellFormed (after m caller c r)
 kept shelf m caller (call.Create config) reply.Done e formed may = record {
   life_and_config = (λ x. absurd (cc), λ x. absurd (cc));
-  reached = tt;
+  unpaused = tt;
   bare = tt;
   checked = IsChecked-checked_of (names_of shelf) config (behind_created (is_some m.config) (verdict (names_of shelf) config) (none-from_done (refusal_of shelf m (call.Create config)) e));
   sessions = formed.sessions;
 }
 kept shelf m caller (call.Begin Delete) reply.Done e formed may = record {
   life_and_config = (λ x. refl, λ x. refl);
-  reached = tt;
+  unpaused = tt;
   bare = tt;
   checked = tt;
   sessions = formed.sessions;
 }
 kept shelf m caller (call.Begin Shutdown) reply.Done e formed may = record {
   life_and_config = (λ x. absurd (cc), λ x. absurd (some_config m ((none-broken (rules_of shelf m (call.Begin Shutdown)) (none-from_done (refusal_of shelf m (call.Begin Shutdown)) e)).0) x));
-  reached = tt;
+  unpaused = tt;
   bare = tt;
   checked = formed.checked;
   sessions = formed.sessions;
 }
 kept shelf m caller (call.AddDisk disk) reply.Done e formed may = record {
   life_and_config = some_left m _ formed ((none-broken (rules_of shelf m (call.AddDisk disk)) (none-from_done (refusal_of shelf m (call.AddDisk disk)) e)).0);
-  reached = formed.reached;
+  unpaused = formed.unpaused;
   bare = bare_unbooted m.life _ (unbooted_added shelf m disk (none-from_done (refusal_of shelf m (call.AddDisk disk)) e));
   checked = checked_added shelf m disk formed.checked (none-from_done (refusal_of shelf m (call.AddDisk disk)) e);
   sessions = formed.sessions;
 }
 kept shelf m caller (call.Remove id) reply.Done e formed may = record {
   life_and_config = some_left m _ formed ((none-broken (rules_of shelf m (call.Remove id)) (none-from_done (refusal_of shelf m (call.Remove id)) e)).0);
-  reached = formed.reached;
+  unpaused = formed.unpaused;
   bare = bare_without m.life m.config (checked_of default_config) id ((none-broken (rules_of shelf m (call.Remove id)) (none-from_done (refusal_of shelf m (call.Remove id)) e)).0) formed.bare;
   checked = checked_without m.config (checked_of default_config) id ((none-broken (rules_of shelf m (call.Remove id)) (none-from_done (refusal_of shelf m (call.Remove id)) e)).0) formed.checked;
   sessions = formed.sessions;
 }
 kept shelf m caller call.Bye reply.Done e formed may = record {
   life_and_config = formed.life_and_config;
-  reached = formed.reached;
+  unpaused = formed.unpaused;
   bare = formed.bare;
   checked = formed.checked;
   sessions = AreSessionsAbove-with_number 0 caller m.ended formed.sessions (omega arith) may.0.1;
 }
 kept shelf m caller call.Stop reply.Done e formed may = record {
   life_and_config = formed.life_and_config;
-  reached = formed.reached;
+  unpaused = formed.unpaused;
   bare = formed.bare;
   checked = formed.checked;
   sessions = formed.sessions;

@@ -1,4 +1,4 @@
--- The calls that this crate answers, and what most of them are answered on a machine that is not booted.
+-- The calls that this crate answers, and the answer of a call that is refused wherever there is a machine.
 use Rattle.std.specs.Prelude.{◌≡◌, true, if◌then◌else◌}
 use Rattle.chv_defs.specs.declared.machine.Machine.{Machine}
 use Rattle.chv_defs.specs.declared.rule.Rule.{Rule}

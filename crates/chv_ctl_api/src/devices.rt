@@ -1,4 +1,4 @@
-// Disks are added to a machine, and devices are removed from it, while it is not booted.
+// Disks are added to a machine and removed from it; so far only one that is not booted has any.
 ghost use Rattle.std.specs.Prelude.{◌≡◌, ◌≢◌, [], ◌∷◌, filter, if◌then◌else◌, length, not, None, Some, IfOk, OnOk, OnErr, MatchResult};
 ghost use Rattle.std.specs.Str.{bytes_eq};
 ghost use Rattle.chv_defs.specs.declared.control.ControlCall.TheVariants.{AddDisk, Remove};

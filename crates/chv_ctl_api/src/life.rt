@@ -38,7 +38,8 @@ pub fn answer_boot(machine: &Machine, shelf: &Row<OnShelf>) -> ControlReply
     refuse(machine, Rule::NotBuilt)
 }
 
-/// The answer to a Begin. No processor is out of a machine so far, so that its goal is reached at once.
+/// The answer to a Begin. No context is out so far, so that a shutdown or a delete reaches its goal at once; a pause is not
+/// built.
 pub fn answer_begin(machine: &Machine, shelf: &Row<OnShelf>, goal: Goal) -> ControlReply
     requires { IsWellFormed machine.now }
     ensures { result ≡ reply_to shelf.now machine.now (Begin goal) }

@@ -1,4 +1,4 @@
-// What `vm.info` shows.
+// What `vm.info` and `vm.counters` show.
 ghost use Rattle.std.specs.Prelude.{◌≡◌, ◌≢◌, ◌<◌, ◌≤◌, ◌^◌, None, IfOk, map, sum_by};
 ghost use Rattle.std.specs.List.{range_with_len};
 ghost use Rattle.chv_defs.specs.Machine.{IsWellFormed};

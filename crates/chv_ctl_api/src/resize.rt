@@ -1,4 +1,4 @@
-// The resizing of a machine that runs, which is refused by its rules, and else as not built.
+// The resizing of a machine: refused by its rules, and else, where it runs, as not built.
 ghost use Rattle.std.specs.Prelude.{◌≡◌, ◌∷◌, [], ◌&&◌, true, not, Some, is_some, find};
 ghost use Rattle.std.specs.Option.{option_copied};
 ghost use Rattle.std.specs.Str.{bytes_eq};

@@ -95,7 +95,7 @@ is_out_of_range zone ram = nat_lt ram zone.size || nat_lt (zone.size + zone.hotp
 abbrev pub zone_named : Checked → List ℕ → Option ZoneConfig
 zone_named now id = find (λ (zone : ZoneConfig). bytes_eq zone.id id) now.config.memory.zones
 
--- a zone that is there cannot have so many bytes
+-- there is such a zone, and it cannot have so many bytes
 abbrev pub is_zone_out_of_range : Option ZoneConfig → ℕ → Bool
 is_zone_out_of_range None ram = false
 is_zone_out_of_range (Some zone) ram = is_out_of_range zone ram
@@ -140,7 +140,7 @@ rules_of shelf m call.Resume =
     ∷ (is_on_hold m.life, Held)
     ∷ (not (is_paused m.life), NotPaused)
     ∷ []
--- (whether a removal of vCPUs is pending is asked where one can be asked for)
+-- (No vCPU's removal can be asked for yet, so that RemovalPending is not asked.)
 rules_of shelf m (call.Resize vcpus ram) =
     (is_uncreated m, NotCreated)
     ∷ (is_created_or_shut_down m.life, NotBooted)
@@ -162,7 +162,7 @@ rules_of shelf m (call.AddDisk disk) =
     ++ (has_full_slots (now_of m), SlotsFull)
     ∷ (is_booted m.life, NotBuilt)
     ∷ [])
--- (whether its removal was asked already is asked where a device can be placed)
+-- (No device of a machine that runs can be leaving, as it has none, so that DeviceLeaving is not asked.)
 rules_of shelf m (call.Remove id) =
     (is_uncreated m, NotCreated)
     ∷ (not (has_text (device_ids (now_of m)) id), DeviceUnknown)
@@ -178,7 +178,7 @@ rules_of shelf m (call.Restore name) =
     (is_some m.config, AlreadyCreated)
     ∷ (true, NotBuilt)
     ∷ []
--- (Ping, Bye and Stop are never refused; no other call is made of a machine that has no device and no script)
+-- (Ping, Bye and Stop are never refused; `MayCall` of `ControlStep` lets no other call be made so far.)
 rules_of shelf m _ = []
 
 -- the rule by which a call is refused: the first whose condition holds
@@ -187,7 +187,7 @@ refusal_of shelf m c = first_broken (rules_of shelf m c)
 
 -- ---- answers
 
--- the answer to a call that no rule refuses
+-- The answer to a call that no rule refuses. (No disk is placed so far, so that none is counted.)
 abbrev pub success_of : Machine → ControlCall → ControlReply
 success_of m call.Info = reply.Shown (shown m)
 success_of m call.Counters = reply.Counted []

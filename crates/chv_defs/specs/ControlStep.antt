@@ -10,7 +10,7 @@ use Rattle.chv_defs.specs.Desks.{is_session_call}
 use Rattle.chv_defs.specs.ApiStep.{reply_to, after}
 
 -- Any caller may stop the run where no Stop stands yet. Sessions make the calls of the API and their Bye, in any state. (A
--- Settle comes behind an answer Holding, which no call has on a machine that is not booted.)
+-- Settle comes behind an answer Holding, which no call has so far.)
 abbrev pub MayCall : Machine → ℕ → ControlCall → Type 0
 MayCall m caller call.Stop = m.stopped ≡ false
 MayCall m caller c = IsSession caller × (is_session_call c ≡ true)

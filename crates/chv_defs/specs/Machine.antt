@@ -20,16 +20,17 @@ abbrev pub AreSessionsAbove : ℕ → List ℕ → Type 0
 AreSessionsAbove low [] = Unit {0}
 AreSessionsAbove low (caller ∷ callers) = (low < caller) × (caller ≤ 16) × AreSessionsAbove caller callers
 
--- There is no machine, or it was created, runs, or was shut down. Pausing is not built yet, so that no machine waits for a
--- pause, a shutdown or a delete either.
-abbrev pub IsReached : Life → Type 0
-IsReached life.None = Unit {0}
-IsReached life.Created = Unit {0}
-IsReached life.Running = Unit {0}
-IsReached life.Shutdown = Unit {0}
-IsReached _ = ⊥
+-- There is no machine, or it was created, runs, or was shut down. A pause is not built yet, so that none is paused; and no
+-- context is ever out, so that none waits for a pause, a shutdown or a delete. (No call leads to a machine that runs yet, as a
+-- boot is not built.)
+abbrev pub IsUnpaused : Life → Type 0
+IsUnpaused life.None = Unit {0}
+IsUnpaused life.Created = Unit {0}
+IsUnpaused life.Running = Unit {0}
+IsUnpaused life.Shutdown = Unit {0}
+IsUnpaused _ = ⊥
 
--- A machine that runs has no device: no zone of it grows, and it has no disk. Devices that are placed are not built yet.
+-- A machine that runs has no device: no zone in effect grows, and there is no disk. Placing devices is not built yet.
 abbrev pub RunsBare : Life → Option Checked → Type 0
 RunsBare life.Running (Some checked) = device_count checked ≡ 0
 RunsBare _ _ = Unit {0}
@@ -40,11 +41,11 @@ HasChecked None = Unit {0}
 HasChecked (Some checked) = IsChecked checked
 
 -- A control state is well formed where it has a configuration exactly where there is a machine, the machine is not paused and
--- does not wait for it, it has no device where it runs, its configuration is a checked one, and the ended ones are sessions,
--- ascending.
+-- waits for no pause, shutdown or delete, it has no device where it runs, its configuration is a checked one, and the ended
+-- ones are sessions, ascending.
 pub record IsWellFormed (m : Machine) : Type 0 where
   pub life_and_config : (m.life ≡ life.None) ↔ (m.config ≡ None)
-  pub reached : IsReached m.life
+  pub unpaused : IsUnpaused m.life
   pub bare : RunsBare m.life m.config
   pub checked : HasChecked m.config
   pub sessions : AreSessionsAbove 0 m.ended

@@ -169,8 +169,8 @@ abbrev pub unless_full : Option Full → Stage → Result Stage Full
 unless_full None s = Ok s
 unless_full (Some full) s = Err full
 
--- What comes of a turn: the entry of its call, where it makes one and the book is not full, and its reply. (No call on a
--- machine that is not booted is answered Holding, so that none is settled.)
+-- What comes of a turn: the entry of its call, where it makes one and the book is not full, and its reply. (No call is
+-- answered Holding so far, so that none is settled.)
 abbrev pub after_turn : List OnShelf → Stage → ℕ → Turn → Result Stage Full
 after_turn shelf s session (Answers (Err rule) last) = Ok (with_reply session (refusal_bytes rule last) s)
 after_turn shelf s session (Answers (Ok c) last) =

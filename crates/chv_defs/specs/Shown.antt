@@ -27,8 +27,8 @@ shown_state life.Shutdown = state.Shutdown
 abbrev pub shown_zone : ZoneConfig → ZoneInfo
 shown_zone zone = record { id = zone.id; plugged_size = 0; requested_size = zone.hotplugged }
 
--- The vCPUs that are present in a state, where so many are at boot: these while the machine runs, is paused or waits for it, and
--- else none.
+-- The numbers of the vCPUs that are present in a shown state, where so many are present at boot: those below this number where
+-- it is Running or Paused, and else none. (A machine that waits is shown as Running.)
 abbrev pub present : ShownState → ℕ → List ℕ
 present state.Running boot = range_with_len 0 boot
 present state.Paused boot = range_with_len 0 boot
@@ -36,12 +36,12 @@ present _ boot = []
 
 -- What is shown of a configuration in a state. The actual size is that of the zones in effect.
 abbrev pub shown_as : ShownState → Checked → Info
-shown_as shown checked = record {
+shown_as how checked = record {
   config = checked.config;
   devices = [];
   actual_size = sum_by (λ (zone : ZoneConfig). zone.size) checked.zones;
-  state = shown;
-  vcpus = present shown checked.config.cpus.boot;
+  state = how;
+  vcpus = present how checked.config.cpus.boot;
   zones = map shown_zone checked.zones;
 }
 
