@@ -65,7 +65,9 @@ fn filled_up(zones: &mut LentBanks) -> Result<bool, AllocError>
         entries: 0,
         bytes: 0,
     });
-    let is_full = zones.room((), 0, 1_048_577, 0)?.is_err_and(|why| why == full);
+    let is_full = zones
+        .room((), 0, 1_048_577, 0)?
+        .is_err_and(|why| why == full);
     let has_room = zones.room((), 0, 1, 0)?.is_ok();
     zones.give_back((), 0, 0);
     Ok(is_full && has_room && zones.pages((), 0, 0)?.is_empty())
