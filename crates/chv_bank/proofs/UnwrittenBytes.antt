@@ -1,5 +1,5 @@
 -- What was not written since its block was opened reads as 0.
-use Rattle.std.proofs.Common.{◌≡◌, ℕ, ◌+◌, ◌<◌, ◌≤◌, Bool, true, false, List, Option, None, Some, refl, ◌∙◌, ap, subst, arith, length, take, add-one}
+use Rattle.std.proofs.Common.{◌≡◌, ℕ, ◌+◌, ◌<◌, ◌≤◌, Bool, true, false, List, None, refl, ◌∙◌, ap, arith, length, take, add-one}
 use Rattle.std.specs.Prelude.{slice_index, unwrap_or}
 use Rattle.std.proofs.lemmas.List.FromFn.{get_or-map-range_with_len}
 use Rattle.chv_defs.specs.declared.bank.BankCall.{BankCall}

@@ -1,9 +1,8 @@
-use Rattle.std.proofs.Common.{◌≡◌, ◌≤◌, ◌∙◌, List, true, false, sym, ap, subst, arith, length}
-use Rattle.std.specs.Prelude.{nat_lt, insert}
-use Rattle.std.specs.List.{prefix_len}
+use Rattle.std.proofs.Common.{◌≡◌, ◌∙◌, List, true, sym, ap, arith}
+use Rattle.std.specs.Prelude.{nat_lt}
 use Rattle.std.proofs.lemmas.Result.{IfOk-weaker}
 use Rattle.std.proofs.lemmas.List.Sums.{prefix_len-le-length}
-use Rattle.chv_bank.specs.CallerPins.{CallerPins, is_row_of, with_pin}
+use Rattle.chv_bank.specs.CallerPins.{CallerPins, is_row_of}
 use Rattle.chv_bank.proofs.RowLaws.{with-set-at, with-insert-at}
 use Rattle.chv_bank.proofs.pins.add_pin.Goals as goal
 
