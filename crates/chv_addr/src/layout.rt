@@ -151,7 +151,8 @@ fn push_run(runs: &mut Vec<Run>, run: Run) -> Result<(), AllocError>
     Ok(())
 }
 
-fn blocks_in(bytes: u64) -> u64
+/// How many blocks so many bytes are.
+pub fn blocks_in(bytes: u64) -> u64
     ensures { result ≡ blocks_in bytes }
 {
     bytes / BLOCK_BYTES

@@ -8,4 +8,5 @@ mod search;
 mod windows;
 
 pub use laws::{blocks_have_one_address, checked_zones_fit, intervals_never_overlap};
+pub use layout::blocks_in;
 pub use map::AddrMap;

@@ -1,1 +1,2 @@
+pub mod BankChanges
 pub mod ZoneCalls

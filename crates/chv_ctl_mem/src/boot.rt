@@ -1,11 +1,16 @@
 // The memory at a boot.
-ghost use Rattle.std.specs.Prelude.{◌≡◌, [], false, IfOk, OnErr, MatchResult};
+ghost use Rattle.std.specs.Prelude.{◌≡◌, [], true, false, length, IfOk, OnErr, MatchResult};
+ghost use Rattle.chv_defs.specs.AddressMap.{is_within_limits};
 ghost use Rattle.chv_defs.specs.BankBook.{refused_or};
 ghost use Rattle.chv_defs.specs.Machine.{HasChecked};
 ghost use Rattle.chv_defs.specs.declared.control.ControlCall.TheVariants.{Boot};
+ghost use Rattle.chv_ctl_mem.specs.BankChanges.{is_in_zone_below, shaped, AreChanged, AreReady};
 ghost use Rattle.chv_ctl_mem.specs.ZoneCalls.{room_refusal_in_all, AreAsBefore, AreAtRest, HaveTheCalls};
 
-use chv_defs::{Machine, Refusal, Zones};
+use crate::each::call_each_bank;
+use crate::room::{make_room, zones_in_effect};
+use chv_addr::blocks_in;
+use chv_defs::{BankCall, Machine, Refusal, ZoneConfig, Zones};
 use std::alloc::AllocError;
 
 /// Opens the boot blocks of each zone in effect, in every bank of it, while no context is lent, and no bank of these zones is
@@ -27,5 +32,25 @@ pub fn boot_zones<R: Copy, Z: Zones<R>>(
     ensures home { Z.lent zones.new ≡ [] }
     ensures books { Z.books zones.new ≡ Z.books zones.old }
 {
-    Ok(Ok(()))
+    let configs = zones_in_effect(machine);
+    let room = make_room(rt, zones, configs.len() as u8, 0)?;
+    if room.is_ok() {
+        shape_zones(rt, zones, configs);
+    }
+    Ok(room)
+}
+
+// Opens the boot blocks of each of these zones, in every bank of it.
+fn shape_zones<R: Copy, Z: Zones<R>>(rt: R, zones: &mut Z, configs: &[ZoneConfig])
+    requires limits { is_within_limits configs.now ≡ true }
+    requires home { Z.lent zones.old ≡ [] }
+    requires ready { AreReady (length configs.now) false 1 (Z.known zones.old) }
+    ensures shaped { AreChanged (is_in_zone_below (length configs.now)) (shaped configs.now) (Z.known zones.old) (Z.known zones.new) }
+    ensures home { Z.lent zones.new ≡ [] }
+    ensures books { Z.books zones.new ≡ Z.books zones.old }
+{
+    for (zone, config) in configs.iter().enumerate() {
+        let call = BankCall::Shape(blocks_in(config.size) as u32);
+        call_each_bank(rt, zones, zone as u8, &call);
+    }
 }

@@ -1,0 +1,4 @@
+pub mod CallSteps
+pub mod ChangeLaws
+pub mod RoomSteps
+pub mod ZoneSteps

@@ -1,0 +1,10 @@
+use Rattle.std.proofs.Common.{◌≡◌, ap, length, rules}
+use Rattle.chv_defs.specs.ApiStep.{is_paused}
+use Rattle.chv_ctl_mem.proofs.CallSteps.{shutdown-left}
+use Rattle.chv_ctl_mem.proofs.wipe.wipe_all.Goals as goal
+
+pub returns-then-is_ok-clause-called : goal.returns-then-is_ok-clause-called
+returns-then-is_ok-clause-called g c =
+    let paused : c.match-matches.matches ≡ is_paused c.args.machine.now.life = search rules in
+    shutdown-left c.args.machine.now (length c.zones_in_effect.result.now) c.match-matches.matches (g.Z.Banked.known c.args.zones.now) (g.Z.Banked.known c.make_room.new.zones) (g.Z.Banked.known c.wipe_zones.new.zones) c.in_ok-room.room
+    (ap length c.zones_in_effect.ensures.zones) paused c.requires.rest (search rules) c.in_ok-room.ensures.room c.wipe_zones.ensures.wiped
