@@ -1,6 +1,6 @@
 -- The owner's calls of a boot and of a wipe, in one zone after another.
-use Rattle.std.proofs.Common.{◌≡◌, ℕ, ◌+◌, ◌-◌, ◌*◌, ◌/◌, ◌^◌, ◌<◌, ◌≤◌, Bool, true, false, List, [], ◌∷◌, length, Option, None, Some, Result, Ok, Err, refl, sym, ◌∙◌, ap, subst, arith, suc, zero}
-use Rattle.std.specs.Prelude.{◌==◌, nat_lt, is_ok, slice_get, if◌then◌else◌, MatchResult}
+use Rattle.std.proofs.Common.{◌≡◌, ℕ, ◌+◌, ◌-◌, ◌<◌, ◌≤◌, Bool, true, false, List, [], ◌∷◌, length, Option, None, Some, Result, Ok, Err, refl, sym, ◌∙◌, ap, subst, arith, suc, zero}
+use Rattle.std.specs.Prelude.{is_ok, slice_get, MatchResult}
 use Rattle.std.proofs.lemmas.Bool.Decides.{nat_tests}
 use Rattle.std.proofs.lemmas.Option.{slice_get_within}
 use Rattle.chv_defs.specs.declared.bank.BankCall.{BankCall}
@@ -17,41 +17,24 @@ use Rattle.chv_defs.specs.declared.machine.Machine.{Machine}
 use Rattle.chv_defs.specs.AddressMap.{blocks_in, is_within_limits}
 use Rattle.chv_defs.specs.ApiStep.{is_paused}
 use Rattle.chv_defs.specs.BankBook.{refused_or}
-use Rattle.chv_defs.specs.BankState.{banks, is_frozen, most_blocks}
+use Rattle.chv_defs.specs.BankState.{banks}
 use Rattle.chv_defs.specs.Machine.{HasChecked}
 use Rattle.chv_defs.specs.OwnerCalls.{calls_in, calls_where, with_calls, zones_of}
-use Rattle.chv_defs.specs.Zones.{most_zones, IsBank, Known}
+use Rattle.chv_defs.specs.Zones.{most_zones, Known}
 use Rattle.chv_defs.proofs.ZoneLaws.{thawed-by-thaw}
 use Rattle.chv_addr.proofs.Limits.{checked-within}
-use Rattle.chv_ctl_mem.specs.BankChanges.{calls_made, is_in_zone, is_in_zone_below, one_more_place, shape_calls, refusal_below, shaped, wipe_calls, AreChanged, AreReady, HasRoom, HavePlaces, IsReady, MayMake}
+use Rattle.chv_ctl_mem.specs.BankChanges.{calls_made, is_in_zone, is_in_zone_below, one_more_place, shape_calls, refusal_below, shaped, wipe_calls, AreChanged, HasRoom, IsReady, MayMake}
 use Rattle.chv_ctl_mem.specs.ZoneCalls.{left_in, room_refusal_in_all, AreAsBefore, AreAtRest, HaveTheCalls, IsAtRest}
-use Rattle.chv_ctl_mem.proofs.ChangeLaws.{changed-by, changed-twice, elsewhere, next-zone, there, zone-not-reached, zone-reached}
+use Rattle.chv_ctl_mem.proofs.ChangeLaws.{there, zone-not-reached, zone-reached}
 
 -- the zones of a checked configuration are within the limits
 pub within-of : (config : Option Checked) (checked : Checked) → config ≡ Some checked → HasChecked config → is_within_limits checked.zones ≡ true
 within-of config checked e h = checked-within checked (let P : Option Checked → Type 0 = HasChecked in subst P e h)
 
--- ---- one call
+-- ---- a thaw, and then a wipe
 
-pub may-shape : (bank blocks : ℕ) (known : Known) → blocks ≤ most_blocks → IsReady false 1 known → MayMake bank (call.Shape blocks) known
-may-shape bank blocks known few ready = record {
-  call = few;
-  owner = refl;
-  no_page = refl;
-  condition = (ready.frozen_so, refl);
-  entry = omega (arith, ready.entries);
-}
-
-pub may-thaw : (bank : ℕ) (known : Known) → IsReady true 2 known → MayMake bank call.Thaw known
-may-thaw bank known ready = record {
-  call = tt;
-  owner = refl;
-  no_page = refl;
-  condition = ready.frozen_so;
-  entry = omega (arith, ready.entries);
-}
-
-pub may-wipe : (bank : ℕ) (known : Known) → IsReady false 1 known → MayMake bank call.Wipe known
+-- a bank that is not frozen may be wiped
+may-wipe : (bank : ℕ) (known : Known) → IsReady false 1 known → MayMake bank call.Wipe known
 may-wipe bank known ready = record {
   call = tt;
   owner = refl;
@@ -61,17 +44,11 @@ may-wipe bank known ready = record {
 }
 
 -- behind its Thaw a bank is ready for its Wipe
-pub ready-by-thaw : (z b : ℕ) (known : Known) → IsReady true 2 known → IsReady false 1 (calls_made (call.Thaw ∷ []) z b known)
+ready-by-thaw : (z b : ℕ) (known : Known) → IsReady true 2 known → IsReady false 1 (calls_made (call.Thaw ∷ []) z b known)
 ready-by-thaw z b known ready = record {
   frozen_so = thawed-by-thaw known.history bank_reply.Done;
   entries = omega (arith, ready.entries);
 }
-
--- a Thaw, and then a Wipe
-pub thaw-and-wipe : (z b : ℕ) (known : Known) → calls_made (call.Wipe ∷ []) z b (calls_made (call.Thaw ∷ []) z b known) ≡ calls_made (wipe_calls true) z b known
-thaw-and-wipe z b known =
-    let left : (known.entries - 1) - 1 ≡ known.entries - 2 = omega arith in
-    ap (λ entries. record (with_calls b known (wipe_calls true)) { entries = entries }) left
 
 -- the banks of a zone, behind their Thaw
 pub may-wipe-thawed : (zone : ℕ) (frozen : Bool) (before now : ℕ → ℕ → Known) → zone < most_zones → frozen ≡ true
@@ -90,49 +67,6 @@ may-wipe-unfrozen zone frozen known e ready b bank =
     let P : Bool → Type 0 = λ f. IsReady f (length (wipe_calls f)) (known zone b) in
     may-wipe b (known zone b) (subst P e (ready b bank))
 
--- ---- boot
-
--- the next zone has its Shape
-pub shape-more : (configs : List ZoneConfig) (zone : ℕ) (config : ZoneConfig) (before now after : ℕ → ℕ → Known) → slice_get configs zone ≡ Some config
-    → AreChanged (is_in_zone_below zone) (shaped configs) before now → AreChanged (is_in_zone zone) (calls_made (call.Shape (blocks_in config.size) ∷ [])) now after
-    → AreChanged (is_in_zone_below (zone + 1)) (shaped configs) before after
-shape-more configs zone config before now after e done h =
-    next-zone zone (shaped configs) before now after done
-    (changed-by (is_in_zone zone) (shaped configs) now after
-    (λ z b is holds. there (is_in_zone zone) (calls_made (call.Shape (blocks_in config.size) ∷ [])) now after z b h is holds ∙ same z b (now z b) holds)
-    (λ z b is fails. elsewhere (is_in_zone zone) (calls_made (call.Shape (blocks_in config.size) ∷ [])) now after z b h is fails))
-  where
-    same : (z b : ℕ) (known : Known) → (z == zone) ≡ true → calls_made (call.Shape (blocks_in config.size) ∷ []) z b known ≡ shaped configs z b known
-    same z b known holds =
-        let here : z ≡ zone = grind (arith, nat_tests) in
-        ap (λ o. calls_made (shape_calls o) z b known) (sym (ap (slice_get configs) here ∙ e))
-
--- a zone that was not reached is as ready as it was
-pub ready-not-reached : (zone count b places : ℕ) (frozen : Bool) (change : ℕ → ℕ → Known → Known) (before now : ℕ → ℕ → Known) → zone < most_zones → zone < count → b < banks
-    → AreReady count frozen places before → AreChanged (is_in_zone_below zone) change before now → IsReady frozen places (now zone b)
-ready-not-reached zone count b places frozen change before now few below bank ready h =
-    let same : now zone b ≡ before zone b = zone-not-reached zone zone b change before now (few, bank) (omega arith) h in
-    let P : Known → Type 0 = IsReady frozen places in
-    subst P (sym same) (ready zone b below bank)
-
--- ---- at rest, and then ready
-
--- a bank at rest has the one place that is kept for its Thaw, or none
-pub places-at-rest : (frozen : Bool) (m : Machine) (known : ℕ → ℕ → Known) → AreAtRest frozen m known → HavePlaces (length (zones_of m)) (if frozen then 1 else 0) known
-places-at-rest frozen m known rest = λ z b below bank. record { entries = (rest z b below bank).entries; pages = (rest z b below bank).pages }
-
--- and with room for one more entry it is ready
-pub ready-with-room : (frozen : Bool) (m : Machine) (known now : ℕ → ℕ → Known) → length (zones_of m) ≤ most_zones → AreAtRest frozen m known
-    → AreChanged (is_in_zone_below (length (zones_of m))) one_more_place known now → AreReady (length (zones_of m)) frozen (length (wipe_calls frozen)) now
-ready-with-room frozen m known now few rest room z b below bank =
-    let given : now z b ≡ one_more_place z b (known z b) = zone-reached z (length (zones_of m)) b one_more_place known now (omega arith, bank) below room in
-    let P : Known → Type 0 = IsReady frozen (length (wipe_calls frozen)) in
-    subst P (sym given) (by frozen (known z b) (rest z b below bank))
-  where
-    by : (f : Bool) (k : Known) → IsAtRest f k → IsReady f (length (wipe_calls f)) (one_more_place z b k)
-    by true k h = record { frozen_so = h.frozen_so; entries = omega (arith, h.entries) }
-    by false k h = record { frozen_so = h.frozen_so; entries = omega (arith, h.entries) }
-
 -- ---- what is left
 
 -- where there is nothing, the list has ended
@@ -150,6 +84,7 @@ calls-done m c change before room after so given made z b is = by (slice_get (zo
   where
     P : Option ZoneConfig → Type 0
     P o = after z b ≡ left_in o 0 (before z b) (with_calls b (before z b) (calls_where o m.life b c reply.Done))
+
     by : (o : Option ZoneConfig) → slice_get (zones_of m) z ≡ o → P (slice_get (zones_of m) z)
     by None e =
         let above : length (zones_of m) ≤ z = none-above (zones_of m) z e in
@@ -172,7 +107,7 @@ wipe-left true z b known rest =
 wipe-left false z b known rest = one-left z b call.Wipe known rest.entries
 
 -- a boot
-pub boot-done : (m : Machine) (before room after : ℕ → ℕ → Known) → AreAtRest false m before
+boot-done : (m : Machine) (before room after : ℕ → ℕ → Known) → AreAtRest false m before
     → AreChanged (is_in_zone_below (length (zones_of m))) one_more_place before room → AreChanged (is_in_zone_below (length (zones_of m))) (shaped (zones_of m)) room after
     → HaveTheCalls m Boot 0 before after
 boot-done m before room after rest = calls-done m Boot (shaped (zones_of m)) before room after so
@@ -183,7 +118,7 @@ boot-done m before room after rest = calls-done m Boot (shaped (zones_of m)) bef
         ∙ one-left z b (call.Shape (blocks_in config.size)) (before z b) (rest z b (slice_get_within (zones_of m) z config e) bank).entries
 
 -- a wipe
-pub wipe-done : (m : Machine) (before room after : ℕ → ℕ → Known) → AreAtRest (is_paused m.life) m before
+wipe-done : (m : Machine) (before room after : ℕ → ℕ → Known) → AreAtRest (is_paused m.life) m before
     → AreChanged (is_in_zone_below (length (zones_of m))) one_more_place before room → AreChanged (is_in_zone_below (length (zones_of m))) (calls_made (wipe_calls (is_paused m.life))) room after
     → HaveTheCalls m (Begin Delete) 0 before after
 wipe-done m before room after rest = calls-done m (Begin Delete) (calls_made (wipe_calls (is_paused m.life))) before room after so

@@ -1,12 +1,10 @@
 -- Changes of banks, one after another.
-use Rattle.std.proofs.Common.{◌≡◌, ℕ, ◌+◌, ◌-◌, ◌<◌, ◌≤◌, Bool, true, false, List, [], ◌∷◌, length, refl, sym, ◌∙◌, ap, arith}
-use Rattle.std.specs.Prelude.{◌==◌, ◌&&◌, ◌||◌, nat_lt, nat_le, if◌then◌else◌}
+use Rattle.std.proofs.Common.{◌≡◌, ℕ, ◌+◌, ◌<◌, ◌≤◌, Bool, true, false, refl, sym, ◌∙◌, ap, arith}
+use Rattle.std.specs.Prelude.{◌==◌, ◌&&◌, ◌||◌, nat_lt, if◌then◌else◌}
 use Rattle.std.proofs.lemmas.Bool.Decides.{nat_tests}
-use Rattle.chv_defs.specs.declared.bank.BankCall.{BankCall}
 use Rattle.chv_defs.specs.BankState.{banks}
-use Rattle.chv_defs.specs.Zones.{most_zones, IsBank, Known, OtherBanksStay, OtherZonesStay}
+use Rattle.chv_defs.specs.Zones.{IsBank, Known, OtherBanksStay, OtherZonesStay}
 use Rattle.chv_ctl_mem.specs.BankChanges.{is_bank, is_bank_below, is_in_zone, is_in_zone_below, AreChanged}
-use Rattle.chv_ctl_mem.specs.ZoneCalls.{AreAsBefore}
 
 or-first : (a b : Bool) → (a || b) ≡ true → b ≡ false → a ≡ true
 or-first true b h e = refl
@@ -60,19 +58,11 @@ changed-more at here both change before mid after apart joined first second = ch
         by false e =
             let was : at z b ≡ true = or-first (at z b) (here z b) (sym (joined z b) ∙ holds) e in
             elsewhere here change mid after z b second bank e ∙ there at change before mid z b first bank was
+
     stays : (z b : ℕ) → IsBank z b → both z b ≡ false → after z b ≡ before z b
     stays z b bank fails =
         let neither : (at z b ≡ false) × (here z b ≡ false) = or-neither (at z b) (here z b) (sym (joined z b) ∙ fails) in
         elsewhere here change mid after z b second bank neither.1 ∙ elsewhere at change before mid z b first bank neither.0
-
--- One change, then another one in the same banks.
-pub changed-twice : (at : ℕ → ℕ → Bool) (one two both : ℕ → ℕ → Known → Known) (before mid after : ℕ → ℕ → Known)
-    → ((z b : ℕ) → two z b (one z b (before z b)) ≡ both z b (before z b))
-    → AreChanged at one before mid → AreChanged at two mid after → AreChanged at both before after
-changed-twice at one two both before mid after same first second =
-    changed-by at both before after
-    (λ z b bank holds. there at two mid after z b second bank holds ∙ ap (two z b) (there at one before mid z b first bank holds) ∙ same z b)
-    (λ z b bank fails. elsewhere at two mid after z b second bank fails ∙ elsewhere at one before mid z b first bank fails)
 
 -- ---- over banks and zones
 
@@ -84,6 +74,7 @@ changed-bank zone bank change before after changed others =
   where
     is-both : (z b : ℕ) → is_bank zone bank z b ≡ true → (zone ≡ z) × (bank ≡ b)
     is-both z b holds = (grind (arith, nat_tests), grind (arith, nat_tests))
+
     at : (z b : ℕ) → (zone ≡ z) × (bank ≡ b) → after z b ≡ change z b (before z b)
     at z b e = rw (← e.0, ← e.1) changed
 
@@ -95,6 +86,7 @@ changed-zone zone change before after changed others =
   where
     is-zone : (z : ℕ) → (z == zone) ≡ true → zone ≡ z
     is-zone z holds = grind (arith, nat_tests)
+
     at : (z b : ℕ) → b < banks → zone ≡ z → after z b ≡ change z b (before z b)
     at z b below e = rw (← e) (changed b below)
 
@@ -125,6 +117,7 @@ all-banks zone change before after h =
   where
     both : (z b count : ℕ) → b < count → (z == zone) ≡ true → ((z == zone) && nat_lt b count) ≡ true
     both z b count below holds = grind (arith, nat_tests)
+
     neither : (z b count : ℕ) → (z == zone) ≡ false → ((z == zone) && nat_lt b count) ≡ false
     neither z b count fails = grind (arith, nat_tests)
 

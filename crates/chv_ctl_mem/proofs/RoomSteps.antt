@@ -1,11 +1,10 @@
 -- Room in one zone after another.
-use Rattle.std.proofs.Common.{◌≡◌, ℕ, ◌+◌, ◌<◌, ◌≤◌, Bool, true, false, Option, None, Some, Result, Ok, Err, refl, sym, ◌∙◌, ap, subst, arith}
-use Rattle.std.specs.Prelude.{◌==◌, nat_lt, min, IfOk, OnErr}
+use Rattle.std.proofs.Common.{◌≡◌, ℕ, ◌+◌, ◌<◌, ◌≤◌, Bool, true, false, Option, None, Some, Result, Ok, Err, refl, sym, ◌∙◌, ap, arith}
+use Rattle.std.specs.Prelude.{◌==◌, nat_lt, min, IfOk}
 use Rattle.std.proofs.lemmas.Bool.Decides.{nat_tests}
 use Rattle.chv_defs.specs.declared.bank.Refusal.{Refusal}
 use Rattle.chv_defs.specs.BankBook.{refused_or}
-use Rattle.chv_defs.specs.BankState.{banks}
-use Rattle.chv_defs.specs.Zones.{most_zones, zone_refusal, IsBank, Known}
+use Rattle.chv_defs.specs.Zones.{most_zones, zone_refusal, Known}
 use Rattle.chv_defs.proofs.ZoneLaws.{first-due-at, first-due-none, zone-refusal-same}
 use Rattle.chv_ctl_mem.specs.BankChanges.{back_to, is_in_zone, is_in_zone_below, one_more_place, refusal_below, AreChanged, HasPlaces, HasRoom, HavePlaces}
 use Rattle.chv_ctl_mem.specs.ZoneCalls.{AreAsBefore}
@@ -44,6 +43,7 @@ room-more zone before now after done few h more = record {
   where
     here : zone_refusal zone (before zone) 1 0 ≡ None
     here = sym (same-due zone before now few h) ∙ due-of (zone_refusal zone (now zone) 1 0) (Ok done) more.answered
+
     by : (z : ℕ) → z < zone + 1 → (t : Bool) → (z == zone) ≡ t → zone_refusal z (before z) 1 0 ≡ None
     by z below true e = let is : zone ≡ z = grind (arith, nat_tests) in rw (← is) here
     by z below false e = h.none z (grind (arith, nat_tests))
@@ -65,6 +65,7 @@ all-given-back zone kept before now mid after rest room same back z b is = by (n
     given k has =
         let entries : min (k.entries + 1) kept ≡ k.entries = omega (arith, has.entries) in
         ap (λ entries. record k { entries = entries; pages = 0 }) entries ∙ ap (λ pages. record k { pages = pages }) (sym has.pages)
+
     by : (t : Bool) → nat_lt z zone ≡ t → after z b ≡ before z b
     by true e =
         let below : z < zone = grind (arith, nat_tests) in
@@ -86,5 +87,6 @@ room-refused zone count before now mid after why below few h asked same = record
   where
     here : zone_refusal zone (before zone) 1 0 ≡ Some why
     here = sym (same-due zone before now (omega arith) h) ∙ why-of (zone_refusal zone (now zone) 1 0) why (sym asked.answered)
+
     first : refusal_below count before ≡ Some why
     first = first-due-at (λ z. zone_refusal z (before z) 1 0) zone count why below h.none here

@@ -1,13 +1,13 @@
 -- What a call on the banks changes while no context is lent.
-use Rattle.std.proofs.Common.{◌≡◌, ℕ, ◌+◌, ◌-◌, ◌<◌, ◌≤◌, Bool, true, false, List, [], ◌∷◌, length, Option, None, Some, Result, Ok, Err, refl, sym, ◌∙◌, ap, subst, arith, IfOk, OnErr, MatchResult}
-use Rattle.std.specs.Prelude.{◌==◌, min}
+use Rattle.std.proofs.Common.{◌≡◌, ℕ, ◌+◌, ◌-◌, ◌<◌, Bool, true, false, List, [], ◌∷◌, Result, Ok, Err, refl, sym, ◌∙◌, ap, subst, arith, IfOk, OnErr, MatchResult}
+use Rattle.std.specs.Prelude.{◌==◌}
 use Rattle.std.proofs.lemmas.Bool.Decides.{nat_tests}
 use Rattle.chv_defs.specs.declared.bank.BankCall.{BankCall}
 use Rattle.chv_defs.specs.declared.bank.BankReply.{BankReply}
 use Rattle.chv_defs.specs.declared.bank.Refusal.{Refusal}
 use Rattle.chv_defs.specs.BankBook.{pages_used, refused_or}
 use Rattle.chv_defs.specs.BankState.{banks}
-use Rattle.chv_defs.specs.Zones.{most_zones, with_room, zone_refusal, Enters, GivesBack, IsBank, Known, MakesRoom, OnlySeesMore, OtherBanksStay, OtherZonesStay, OwnerMayAsk}
+use Rattle.chv_defs.specs.Zones.{with_room, zone_refusal, Enters, GivesBack, Known, MakesRoom, OnlySeesMore, OtherBanksStay, OtherZonesStay, OwnerMayAsk}
 use Rattle.chv_defs.proofs.ZoneLaws.{entered_by, enters-none, gives-back-none, makes-room-none, sees-none}
 use Rattle.chv_ctl_mem.specs.BankChanges.{back_to, calls_made, is_bank, is_in_zone, one_more_place, AreChanged, HasRoom, MayMake}
 use Rattle.chv_ctl_mem.specs.ZoneCalls.{AreAsBefore}
@@ -73,7 +73,7 @@ pub asked : (lent : List ℕ) (zone : ℕ) (before after : ℕ → ℕ → Known
 asked lent zone before after answer home no_page made others =
     let P : List ℕ → Type 0 = λ l. MakesRoom l (before zone) (after zone) zone 1 0 (tt {0}) answer in
     let both : (answer ≡ refused_or (zone_refusal zone (before zone) 1 0) (tt {0})) × ((b : ℕ) → b < banks → after zone b ≡ with_room (before zone b) 1 0 answer) =
-        makes-room-none (before zone) (after zone) zone 1 0 (tt {0}) answer (subst P home made) in
+    makes-room-none (before zone) (after zone) zone 1 0 (tt {0}) answer (subst P home made) in
     record { answered = both.0; left = asked-so zone before after answer no_page both.1 others }
 
 -- the same of a call that may want memory

@@ -1,5 +1,5 @@
 -- What a control call asks of the banks of the zones in effect, and what it leaves there.
-use Rattle.std.specs.Prelude.{◌≡◌, ◌<◌, ℕ, Bool, if◌then◌else◌, List, length, map, slice_get, Option, None, Some}
+use Rattle.std.specs.Prelude.{◌≡◌, ◌<◌, ℕ, Bool, if◌then◌else◌, length, map, slice_get, Option, None, Some}
 use Rattle.std.specs.List.{range_with_len}
 use Rattle.chv_defs.specs.declared.bank.Refusal.{Refusal}
 use Rattle.chv_defs.specs.declared.config.ZoneConfig.{ZoneConfig}

@@ -1,6 +1,6 @@
 -- What calls on the banks of all zones come to while no context is lent: then nothing is seen in between, and the owner knows
 -- all that there is.
-use Rattle.std.proofs.Common.{◌≡◌, ℕ, zero, suc, ◌+◌, ◌-◌, ◌<◌, ◌≤◌, Bool, true, false, List, [], ◌∷◌, ◌++◌, Option, None, Some, Result, Ok, Err, refl, sym, ◌∙◌, ap, subst, arith, add-suc}
+use Rattle.std.proofs.Common.{◌≡◌, ℕ, zero, suc, ◌+◌, ◌-◌, ◌<◌, Bool, true, false, List, [], ◌∷◌, ◌++◌, Option, None, Some, Result, refl, ◌∙◌, ap, arith}
 use Rattle.std.specs.Prelude.{◌&&◌, map, min}
 use Rattle.std.specs.List.{range_with_len}
 use Rattle.std.proofs.lemmas.List.{append-nil}
@@ -112,9 +112,10 @@ pub makes-room-none : {A : Type 0} (before after : ℕ → Known) (zone entries 
     → (answer ≡ refused_or (zone_refusal zone before entries pages) done) × ((bank : ℕ) → bank < banks → after bank ≡ with_room (before bank) entries pages answer)
 makes-room-none before after zone entries pages done answer h =
     let seen : (bank : ℕ) → bank < banks → h.at bank ≡ (before bank).history = λ bank below. goes-on-none (before bank).history (h.at bank) (h.seen bank below) in
-    let stays : (bank : ℕ) → bank < banks → (after bank).history ≡ (before bank).history = λ bank below. goes-on-none (h.at bank) (after bank).history (h.later bank below) ∙ seen bank below in
-    ( h.answered ∙ ap (λ why. refused_or why done) (zone-refusal-same zone (λ bank. record (before bank) { history = h.at bank }) before entries pages (λ bank below. ap (λ history. record (before bank) { history = history }) (seen bank below)))
-    , λ bank below. h.reserved bank below ∙ ap (λ history. with_room (record (before bank) { history = history }) entries pages answer) (stays bank below) )
+    let stays : (bank : ℕ) → bank < banks → (after bank).history ≡ (before bank).history = λ bank below. goes-on-none (h.at bank) (after bank).history (h.later bank below) ∙ seen bank below in (
+      h.answered ∙ ap (λ why. refused_or why done) (zone-refusal-same zone (λ bank. record (before bank) { history = h.at bank }) before entries pages (λ bank below. ap (λ history. record (before bank) { history = history }) (seen bank below))),
+      λ bank below. h.reserved bank below ∙ ap (λ history. with_room (record (before bank) { history = history }) entries pages answer) (stays bank below),
+    )
 
 -- ---- a thaw
 

@@ -1,6 +1,6 @@
 -- The owner's calls that a control entry stands for: what it makes the owner of the memory, which is the control value, do in
 -- each bank. So far these are the calls of a boot, and of a shutdown and a delete that reach their goal at once.
-use Rattle.std.specs.Prelude.{ℕ, Bool, if◌then◌else◌, List, [], ◌∷◌, slice_get, Option, None, Some}
+use Rattle.std.specs.Prelude.{ℕ, if◌then◌else◌, List, [], ◌∷◌, slice_get, Option, None, Some}
 use Rattle.chv_defs.specs.declared.machine.Machine.{Machine}
 use Rattle.chv_defs.specs.declared.machine.Life.{Life}
 use Rattle.chv_defs.specs.declared.config.Checked.{Checked}
