@@ -1,4 +1,4 @@
-use Rattle.std.proofs.Common.{drop, ap, ◌∙◌}
+use Rattle.std.proofs.Common.{drop, ap, ◌∙◌, rules}
 use Rattle.chv_http.proofs.StageLemmas.{short_of_front, refused_here}
 use Rattle.chv_http.proofs.parser.Parser.take.Goals as goal
 
@@ -11,3 +11,6 @@ pub returns-in-Bad-clause-took : goal.returns-in-Bad-clause-took
 returns-in-Bad-clause-took c =
     let same = c.from-rest.ensures ∙ ap (drop c.self.inside.start) c.as_slice.ensures.value ∙ c.self.view_is in
     ((refused_here _ _ _ _ c.in-Bad.is same c.look_on-self-inside.ensures.holds).0, c.self.view_is)
+
+pub give-requires-clause-whole : goal.give-requires-clause-whole
+give-requires-clause-whole c = search rules
