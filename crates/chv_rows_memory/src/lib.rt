@@ -4,6 +4,8 @@
 #[cfg(test)]
 mod bank;
 #[cfg(test)]
+mod ctl_mem;
+#[cfg(test)]
 mod guest;
 #[cfg(test)]
 mod pages;

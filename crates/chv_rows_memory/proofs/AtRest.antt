@@ -1,0 +1,51 @@
+-- Banks to which nothing happened yet are at rest.
+use Rattle.std.proofs.Common.{◌≡◌, ℕ, ◌+◌, ◌*◌, ◌<◌, ◌≤◌, Bool, true, false, Option, None, Some, refl, sym, ◌∙◌, ap, subst, arith, length, get_or, map}
+use Rattle.std.specs.Prelude.{◌&&◌, nat_le}
+use Rattle.std.specs.List.{range_with_len}
+use Rattle.std.proofs.lemmas.List.FromFn.{get_or-map-range_with_len}
+use Rattle.std.proofs.lemmas.Bool.Decides.{nat_tests}
+use Rattle.chv_defs.specs.declared.config.Checked.{Checked}
+use Rattle.chv_defs.specs.declared.machine.Machine.{Machine}
+use Rattle.chv_defs.specs.declared.machine.Life.{Life}
+use Rattle.chv_defs.specs.declared.machine.Life.TheVariants as life
+use Rattle.chv_defs.specs.AddressMap.{is_within_limits}
+use Rattle.chv_defs.specs.ApiStep.{is_paused}
+use Rattle.chv_defs.specs.BankBook.{BankBook, fresh}
+use Rattle.chv_defs.specs.BankState.{banks}
+use Rattle.chv_defs.specs.Machine.{HasChecked, IsUnpaused}
+use Rattle.chv_defs.specs.OwnerCalls.{zones_in, zones_of}
+use Rattle.chv_defs.specs.Zones.{Known}
+use Rattle.chv_guest.specs.LentBanks.{bank_at, bank_count, fresh_at, fresh_banks, known_at, place_of}
+use Rattle.chv_addr.proofs.Limits.{checked-within}
+use Rattle.chv_ctl_mem.specs.ZoneCalls.{AreAtRest, IsAtRest}
+
+first : (a b : Bool) → (a && b) ≡ true → a ≡ true
+first true b e = refl
+first false b e = e
+
+-- a checked configuration has at most 8 zones
+few_zones : (config : Option Checked) → HasChecked config → length (zones_in config) ≤ 8
+few_zones None checked = omega arith
+few_zones (Some now) checked = at_most _ (first _ _ (checked-within now checked))
+  where
+    at_most : (n : ℕ) → nat_le n 8 ≡ true → n ≤ 8
+    at_most n e = grind (arith, nat_tests)
+
+-- a bank to which nothing happened
+fresh_there : (z b : ℕ) → z < 8 → b < banks → bank_at fresh_banks z b ≡ fresh_at (place_of z b)
+fresh_there z b zone bank = get_or-map-range_with_len fresh_at 0 bank_count (place_of z b) (place_of z b) (fresh z b) (omega (arith, zone, bank)) refl
+
+pub fresh-at-rest : (m : Machine) → HasChecked m.config → AreAtRest false m (known_at fresh_banks)
+fresh-at-rest m checked z b zone bank =
+    let P : BankBook → Type 0 = λ book. IsAtRest false (record { history = book.history; entries = book.entries; pages = book.pages }) in
+    let few = few_zones m.config checked in
+    subst P (sym (fresh_there z b (omega (arith, zone, few)) bank)) (record { frozen_so = refl; entries = refl; pages = refl })
+
+-- no machine is paused so far
+pub unpaused : (l : Life) → IsUnpaused l → is_paused l ≡ false
+unpaused life.None u = refl
+unpaused life.Created u = refl
+unpaused life.Running u = refl
+unpaused (life.Hold holder goal) u = refl
+unpaused life.Paused u = absurd u
+unpaused life.Shutdown u = refl
