@@ -1,6 +1,6 @@
 -- The owner's calls of a boot and of a wipe, in one zone after another.
 use Rattle.std.proofs.Common.{◌≡◌, ℕ, ◌+◌, ◌-◌, ◌<◌, ◌≤◌, Bool, true, false, List, [], ◌∷◌, length, Option, None, Some, Result, Ok, Err, refl, sym, ◌∙◌, ap, subst, arith, suc, zero}
-use Rattle.std.specs.Prelude.{is_ok, slice_get, MatchResult}
+use Rattle.std.specs.Prelude.{◌==◌, is_ok, slice_get, MatchResult}
 use Rattle.std.proofs.lemmas.Bool.Decides.{nat_tests}
 use Rattle.std.proofs.lemmas.Option.{slice_get_within}
 use Rattle.chv_defs.specs.declared.bank.BankCall.{BankCall}
@@ -23,9 +23,9 @@ use Rattle.chv_defs.specs.OwnerCalls.{calls_in, calls_where, with_calls, zones_o
 use Rattle.chv_defs.specs.Zones.{most_zones, Known}
 use Rattle.chv_defs.proofs.ZoneLaws.{thawed-by-thaw}
 use Rattle.chv_addr.proofs.Limits.{checked-within}
-use Rattle.chv_ctl_mem.specs.BankChanges.{calls_made, is_in_zone, is_in_zone_below, one_more_place, shape_calls, refusal_below, shaped, wipe_calls, AreChanged, HasRoom, IsReady, MayMake}
+use Rattle.chv_ctl_mem.specs.BankChanges.{calls_made, is_in_zone, is_in_zone_below, one_more_place, shape_calls, refusal_below, shaped, wipe_calls, AreChanged, AreReady, HasRoom, IsReady, MayMake}
 use Rattle.chv_ctl_mem.specs.ZoneCalls.{left_in, room_refusal_in_all, AreAsBefore, AreAtRest, HaveTheCalls, IsAtRest}
-use Rattle.chv_ctl_mem.proofs.ChangeLaws.{there, zone-not-reached, zone-reached}
+use Rattle.chv_ctl_mem.proofs.ChangeLaws.{there, zone-not-reached, zone-reached, changed-by, elsewhere, next-zone}
 
 -- the zones of a checked configuration are within the limits
 pub within-of : (config : Option Checked) (checked : Checked) → config ≡ Some checked → HasChecked config → is_within_limits checked.zones ≡ true
@@ -66,6 +66,37 @@ pub may-wipe-unfrozen : (zone : ℕ) (frozen : Bool) (known : ℕ → ℕ → Kn
 may-wipe-unfrozen zone frozen known e ready b bank =
     let P : Bool → Type 0 = λ f. IsReady f (length (wipe_calls f)) (known zone b) in
     may-wipe b (known zone b) (subst P e (ready b bank))
+
+-- ---- a boot
+
+-- the next zone has its Shape
+pub shape-more : (configs : List ZoneConfig) (zone : ℕ) (config : ZoneConfig) (before now after : ℕ → ℕ → Known) → slice_get configs zone ≡ Some config
+    → AreChanged (is_in_zone_below zone) (shaped configs) before now → AreChanged (is_in_zone zone) (calls_made (call.Shape (blocks_in config.size) ∷ [])) now after
+    → AreChanged (is_in_zone_below (zone + 1)) (shaped configs) before after
+shape-more configs zone config before now after e done h =
+    next-zone zone (shaped configs) before now after done
+    (changed-by (is_in_zone zone) (shaped configs) now after
+    (λ z b is holds. there (is_in_zone zone) (calls_made (call.Shape (blocks_in config.size) ∷ [])) now after z b h is holds ∙ same z b (now z b) holds)
+    (λ z b is fails. elsewhere (is_in_zone zone) (calls_made (call.Shape (blocks_in config.size) ∷ [])) now after z b h is fails))
+  where
+    same : (z b : ℕ) (known : Known) → (z == zone) ≡ true → calls_made (call.Shape (blocks_in config.size) ∷ []) z b known ≡ shaped configs z b known
+    same z b known holds =
+        let here : z ≡ zone = grind (arith, nat_tests) in
+        ap (λ o. calls_made (shape_calls o) z b known) (sym (ap (slice_get configs) here ∙ e))
+
+-- ---- room
+
+-- with room for one more entry it is ready
+ready-with-room : (frozen : Bool) (m : Machine) (known now : ℕ → ℕ → Known) → length (zones_of m) ≤ most_zones → AreAtRest frozen m known
+    → AreChanged (is_in_zone_below (length (zones_of m))) one_more_place known now → AreReady (length (zones_of m)) frozen (length (wipe_calls frozen)) now
+ready-with-room frozen m known now few rest room z b below bank =
+    let given : now z b ≡ one_more_place z b (known z b) = zone-reached z (length (zones_of m)) b one_more_place known now (omega arith, bank) below room in
+    let P : Known → Type 0 = IsReady frozen (length (wipe_calls frozen)) in
+    subst P (sym given) (by frozen (known z b) (rest z b below bank))
+  where
+    by : (f : Bool) (k : Known) → IsAtRest f k → IsReady f (length (wipe_calls f)) (one_more_place z b k)
+    by true k h = record { frozen_so = h.frozen_so; entries = omega (arith, h.entries) }
+    by false k h = record { frozen_so = h.frozen_so; entries = omega (arith, h.entries) }
 
 -- ---- what is left
 
@@ -142,6 +173,17 @@ boot-left m configs before room after (Ok done) e rest well given made =
     let Q : List ZoneConfig → Type 0 = λ zones. AreChanged (is_in_zone_below (length zones)) (shaped zones) room after in
     boot-done m before room after rest (subst P e given.left) (subst Q e made)
 boot-left m configs before room after (Err why) e rest well given made = cc
+
+-- banks with room for the calls of a wipe are ready for it
+pub ready-to-wipe : (m : Machine) (count : ℕ) (frozen : Bool) (before room : ℕ → ℕ → Known) (answer : Result (Unit {0}) Refusal) → count ≡ length (zones_of m) → frozen ≡ is_paused m.life
+    → count ≤ most_zones → AreAtRest (is_paused m.life) m before → is_ok answer ≡ true → HasRoom (is_in_zone_below count) (refusal_below count before) before room answer
+    → AreReady count frozen (length (wipe_calls frozen)) room
+ready-to-wipe m count frozen before room (Ok done) e f few rest well given =
+    let P : ℕ → Type 0 = λ n. AreChanged (is_in_zone_below n) one_more_place before room in
+    let Q : ℕ → Type 0 = λ n. AreReady n frozen (length (wipe_calls frozen)) room in
+    let R : Bool → Type 0 = λ b. AreReady (length (zones_of m)) b (length (wipe_calls b)) room in
+    subst Q (sym e) (subst R (sym f) (ready-with-room (is_paused m.life) m before room (omega arith) rest (subst P e given.left)))
+ready-to-wipe m count frozen before room (Err why) e f few rest well given = cc
 
 -- a wipe with room for its calls
 pub shutdown-left : (m : Machine) (count : ℕ) (frozen : Bool) (before room after : ℕ → ℕ → Known) (answer : Result (Unit {0}) Refusal) → count ≡ length (zones_of m) → frozen ≡ is_paused m.life

@@ -11,3 +11,8 @@ pub returns-else-is_ok-clause-answer : goal.returns-else-is_ok-clause-answer
 returns-else-is_ok-clause-answer g c =
     room-answer c.args.machine.now c.zones_in_effect-configs.result.now (g.Z.Banked.known c.args.zones.now) (g.Z.Banked.known c.make_room.new.zones) c.in_ok-room.room
     c.zones_in_effect-configs.ensures.zones c.in_ok-room.ensures.room
+
+pub returns-then-is_ok-clause-answer : goal.returns-then-is_ok-clause-answer
+returns-then-is_ok-clause-answer g c =
+    room-answer c.args.machine.now c.zones_in_effect-configs.result.now (g.Z.Banked.known c.args.zones.now) (g.Z.Banked.known c.make_room.new.zones) c.in_ok-room.room
+    c.zones_in_effect-configs.ensures.zones c.in_ok-room.ensures.room
