@@ -3,14 +3,15 @@ use Rattle.std.proofs.Common.{◌≡◌, ℕ, ◌+◌, ◌<◌, List, [], ◌∷
 use Rattle.std.proofs.lemmas.List.{append-nil, take-append-drop}
 use Rattle.std.proofs.lemmas.Grind.{take_at_read, flat_map-append}
 use Rattle.chv_defs.specs.ScriptText.{field}
-use Rattle.chv_defs.specs.TraceText.{pairs_or_dash, control_line, session_end_text, session_part, trace_text}
+use Rattle.chv_defs.specs.TraceText.{pairs_or_dash, control_line, bank_line, bank_part, session_end_text, session_part, trace_text}
+use Rattle.chv_defs.specs.declared.bank.BankEntry.{BankEntry}
 use Rattle.chv_defs.specs.declared.control.ControlEntry.{ControlEntry}
 use Rattle.chv_defs.specs.declared.scene.MadeDisk.{MadeDisk}
 use Rattle.chv_defs.specs.declared.scene.VcpuSection.{VcpuSection}
 use Rattle.chv_defs.specs.declared.trace.BankTrace.{BankTrace}
 use Rattle.chv_defs.specs.declared.trace.SessionTrace.{SessionTrace}
 use Rattle.chv_defs.specs.declared.trace.Trace.{Trace}
-use Rattle.chv_trace.specs.Printing.{head_text, end_line}
+use Rattle.chv_trace.specs.Printing.{head_text, end_line, bank_head}
 
 pub regrouped : (a b c : List ℕ) → (a ++ b) ++ c ≡ a ++ (b ++ c)
 regrouped a b c = append_assoc a b c
@@ -60,28 +61,48 @@ session_joined n e a b = session_regrouped (codes "session") (field n) (field e)
 pub session_lines : (s : SessionTrace) → end_line s ++ (codes "ask " ++ pairs_or_dash s.log.asked ++ codes "\n") ++ (codes "reply " ++ pairs_or_dash s.log.replied ++ codes "\n") ≡ session_part s
 session_lines s = session_joined (decimal s.session) (session_end_text s.log.end) (pairs_or_dash s.log.asked) (pairs_or_dash s.log.replied)
 
-plain_regrouped : (t u z l k n c s e : List ℕ) → ((t ++ u) ++ z ++ (l ++ k) ++ n ++ l) ++ c ++ s ++ e ≡ t ++ (u ++ z ++ l ++ [] ++ []) ++ (k ++ n ++ l ++ c) ++ [] ++ s ++ e
-plain_regrouped t u z l k n c s e = simp (append_assoc, append-nil)
+-- a bank's lines
+pub bank_lines : (b : BankTrace) (entries : List BankEntry) → entries ≡ b.entries → bank_head b ++ flat_map bank_line entries ≡ bank_part b
+bank_lines b entries same = ap (λ (l : List BankEntry). bank_head b ++ flat_map bank_line l) same
 
-plain_joined : (z n c s : List ℕ) → (codes "trace 1\nscene" ++ field z ++ codes "\ncontrol" ++ field n ++ codes "\n") ++ c ++ s ++ codes "end\n"
-    ≡ codes "trace 1\n" ++ (codes "scene" ++ field z ++ codes "\n" ++ [] ++ []) ++ (codes "control" ++ field n ++ codes "\n" ++ c) ++ [] ++ s ++ codes "end\n"
-plain_joined z n c s = plain_regrouped (codes "trace 1\n") (codes "scene") (field z) (codes "\n") (codes "control") (field n) c s (codes "end\n")
+begin_regrouped : (t u z l k n c : List ℕ) → ((t ++ u) ++ z ++ (l ++ k) ++ n ++ l) ++ c ≡ t ++ (u ++ z ++ l ++ [] ++ []) ++ (k ++ n ++ l ++ c)
+begin_regrouped t u z l k n c = simp (append_assoc, append-nil)
 
--- a trace without disks, scripts and banks
-abbrev plain_trace : List ControlEntry → List SessionTrace → Trace
-plain_trace control sessions = record { disks = []; vcpus = []; control = control; banks = []; sessions = sessions }
+-- the lines before the banks
+begin : (z n c : List ℕ) → (codes "trace 1\nscene" ++ field z ++ codes "\ncontrol" ++ field n ++ codes "\n") ++ c
+    ≡ codes "trace 1\n" ++ (codes "scene" ++ field z ++ codes "\n" ++ [] ++ []) ++ (codes "control" ++ field n ++ codes "\n" ++ c)
+begin z n c = begin_regrouped (codes "trace 1\n") (codes "scene") (field z) (codes "\n") (codes "control") (field n) c
 
-is_plain : (t : Trace) → t.disks ≡ [] → t.vcpus ≡ [] → t.banks ≡ [] → t ≡ plain_trace t.control t.sessions
-is_plain t d v b =
+-- a trace without disks and scripts
+abbrev plain_trace : List ControlEntry → List BankTrace → List SessionTrace → Trace
+plain_trace control banks sessions = record { disks = []; vcpus = []; control = control; banks = banks; sessions = sessions }
+
+is_plain : (t : Trace) → t.disks ≡ [] → t.vcpus ≡ [] → t ≡ plain_trace t.control t.banks t.sessions
+is_plain t d v =
     let with_disks : List MadeDisk → Trace = λ x. record { disks = x; vcpus = t.vcpus; control = t.control; banks = t.banks; sessions = t.sessions } in
     let with_vcpus : List VcpuSection → Trace = λ x. record { disks = []; vcpus = x; control = t.control; banks = t.banks; sessions = t.sessions } in
-    let with_banks : List BankTrace → Trace = λ x. record { disks = []; vcpus = []; control = t.control; banks = x; sessions = t.sessions } in
-    ap with_disks d ∙ ap with_vcpus v ∙ ap with_banks b
+    ap with_disks d ∙ ap with_vcpus v
 
-plain_text : (t : Trace) → t.disks ≡ [] → t.vcpus ≡ [] → t.banks ≡ [] → head_text (length t.control) ++ flat_map control_line t.control ++ flat_map session_part t.sessions ++ codes "end\n" ≡ trace_text t
-plain_text t d v b = plain_joined (decimal 0) (decimal (length t.control)) (flat_map control_line t.control) (flat_map session_part t.sessions) ∙ ap trace_text (sym (is_plain t d v b))
+plain_text : (t : Trace) → t.disks ≡ [] → t.vcpus ≡ [] → head_text (length t.control) ++ flat_map control_line t.control ++ flat_map bank_part t.banks ++ flat_map session_part t.sessions ++ codes "end\n" ≡ trace_text t
+plain_text t d v =
+    ap (λ l. l ++ flat_map bank_part t.banks ++ flat_map session_part t.sessions ++ codes "end\n") (begin (decimal 0) (decimal (length t.control)) (flat_map control_line t.control))
+    ∙ ap trace_text (sym (is_plain t d v))
 
 -- the parts that are added make a trace's text
-pub trace_parts : (t : Trace) (n : ℕ) (control : List ControlEntry) (sessions : List SessionTrace) → t.disks ≡ [] → t.vcpus ≡ [] → t.banks ≡ [] → n ≡ length t.control → control ≡ t.control → sessions ≡ t.sessions
-    → head_text n ++ flat_map control_line control ++ flat_map session_part sessions ++ codes "end\n" ≡ trace_text t
-trace_parts t n control sessions d v b e f g = rw (e, f, g) (plain_text t d v b)
+pub trace_parts : (t : Trace) (n : ℕ) (control : List ControlEntry) (banks : List BankTrace) (sessions : List SessionTrace) → t.disks ≡ [] → t.vcpus ≡ [] → n ≡ length t.control → control ≡ t.control → banks ≡ t.banks → sessions ≡ t.sessions
+    → head_text n ++ flat_map control_line control ++ flat_map bank_part banks ++ flat_map session_part sessions ++ codes "end\n" ≡ trace_text t
+trace_parts t n control banks sessions d v e f g h = rw (e, f, g, h) (plain_text t d v)
+
+-- ---- what follows a part
+
+-- two parts follow
+pub two_follow : {all : List ℕ} (a b c : List ℕ) → a ++ b ++ c ≡ all → a ++ (b ++ c) ≡ all
+two_follow a b c same = sym (append_assoc a b c) ∙ same
+
+-- three parts follow
+pub three_follow : {all : List ℕ} (a b c d : List ℕ) → a ++ b ++ c ++ d ≡ all → a ++ (b ++ (c ++ d)) ≡ all
+three_follow a b c d same = two_follow a b (c ++ d) (two_follow (a ++ b) c d same)
+
+-- four parts follow
+pub four_follow : {all : List ℕ} (a b c d e : List ℕ) → a ++ b ++ c ++ d ++ e ≡ all → a ++ (b ++ (c ++ (d ++ e))) ≡ all
+four_follow a b c d e same = three_follow a b c (d ++ e) (two_follow (a ++ b ++ c) d e same)

@@ -1,10 +1,11 @@
 -- What printing through a buffer comes to: of all bytes that were added so far, a first part was put into the output,
 -- and the rest is held.
-use Rattle.std.specs.Prelude.{◌≡◌, ℕ, List, ◌++◌, codes, Option}
+use Rattle.std.specs.Prelude.{◌≡◌, ℕ, List, ◌++◌, length, codes, Option}
 use Rattle.chv_defs.specs.Numbers.{dec_text}
 use Rattle.chv_defs.specs.Outside.{Gains}
 use Rattle.chv_defs.specs.ScriptText.{field}
 use Rattle.chv_defs.specs.TraceText.{session_end_text}
+use Rattle.chv_defs.specs.declared.trace.BankTrace.{BankTrace}
 use Rattle.chv_defs.specs.declared.trace.SessionTrace.{SessionTrace}
 
 -- Bytes were added to those that were held: some were put, and the others are held now.
@@ -27,3 +28,7 @@ head_text entries = codes "trace 1\nscene" ++ field (dec_text 0) ++ codes "\ncon
 -- the first line of a session
 abbrev pub end_line : SessionTrace → List ℕ
 end_line s = codes "session" ++ field (dec_text s.session) ++ field (session_end_text s.log.end) ++ codes "\n"
+
+-- the first line of a bank
+abbrev pub bank_head : BankTrace → List ℕ
+bank_head b = codes "bank" ++ field (dec_text b.zone) ++ field (dec_text b.bank) ++ field (dec_text (length b.entries)) ++ codes "\n"

@@ -2,6 +2,8 @@
 #![tactic(auto)]
 
 mod accesses;
+mod bank_texts;
+mod banks;
 mod calls;
 mod fields;
 mod notes;

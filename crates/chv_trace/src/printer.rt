@@ -5,6 +5,7 @@ ghost use Rattle.chv_defs.specs.TraceText.{control_line, trace_text};
 ghost use Rattle.chv_trace.specs.Printing.{Adds, BreaksOff, head_text};
 
 use crate::PrintError;
+use crate::banks::push_banks;
 use crate::calls::call_text;
 use crate::pieces::{push, put_all};
 use crate::replies::reply_text;
@@ -14,12 +15,11 @@ use chv_io::Sink;
 use std::alloc::{AllocError, Global};
 
 /// Puts the text of a trace into an output, piece by piece: beside one line, no more than a piece of 65,536 bytes is
-/// held at a time. A trace has no disks, scripts and banks here. `Memory` may come where memory is wanted, `Failed`
+/// held at a time. A trace has no disks and scripts here. `Memory` may come where memory is wanted, `Failed`
 /// comes where the output fails; after either the output has a first part of the text.
 pub fn print<K: Sink>(alloc: Global, trace: &Trace, out: &mut K) -> Result<(), PrintError>
     requires disks { trace.now.disks ≡ [] }
     requires vcpus { trace.now.vcpus ≡ [] }
-    requires banks { trace.now.banks ≡ [] }
     ensures ok { OnOk result (Gains (K.written out.old) (K.written out.new) (trace_text trace.now)) }
     ensures part { OnErr result (GainsPart (K.written out.old) (K.written out.new) (trace_text trace.now)) }
     ensures cause { result ≡ Err PrintError.Failed → Rose (K.write_faults out.old) (K.write_faults out.new) }
@@ -38,7 +38,6 @@ fn push_trace<K: Sink>(
 ) -> Result<(), PrintError>
     requires disks { trace.now.disks ≡ [] }
     requires vcpus { trace.now.vcpus ≡ [] }
-    requires banks { trace.now.banks ≡ [] }
     ensures ok { OnOk result (Adds (K.written out.old) (string_bytes buffer.old) (K.written out.new) (string_bytes buffer.new) (trace_text trace.now)) }
     ensures part { OnErr result (BreaksOff (K.written out.old) (string_bytes buffer.old) (K.written out.new) (trace_text trace.now)) }
     ensures cause { result ≡ Err PrintError.Failed → Rose (K.write_faults out.old) (K.write_faults out.new) }
@@ -46,6 +45,7 @@ fn push_trace<K: Sink>(
 {
     push_head(alloc, out, buffer, trace.control.len())?;
     push_entries(alloc, out, buffer, trace.control.as_slice())?;
+    push_banks(alloc, out, buffer, trace.banks.as_slice())?;
     push_sessions(alloc, out, buffer, trace.sessions.as_slice())?;
     push(out, buffer, "end\n")
 }

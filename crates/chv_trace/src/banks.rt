@@ -1,0 +1,112 @@
+// The banks of a trace.
+ghost use Rattle.std.specs.Prelude.{◌≡◌, ◌≤◌, ◌++◌, IfOk, OnOk, OnErr, codes, flat_map, string_bytes};
+ghost use Rattle.chv_defs.specs.Outside.{Rose};
+ghost use Rattle.chv_defs.specs.Numbers.{dec_text};
+ghost use Rattle.chv_defs.specs.ScriptText.{field};
+ghost use Rattle.chv_defs.specs.TraceText.{bank_line, bank_part};
+ghost use Rattle.chv_trace.specs.Printing.{Adds, BreaksOff, bank_head};
+
+use crate::PrintError;
+use crate::bank_texts::{call_text, reply_text};
+use crate::pieces::push;
+use chv_defs::{BankEntry, BankTrace};
+use chv_io::Sink;
+use std::alloc::{AllocError, Global};
+
+/// Adds the parts of banks, one after another.
+pub(crate) fn push_banks<K: Sink>(
+    alloc: Global,
+    out: &mut K,
+    buffer: &mut String,
+    banks: &[BankTrace],
+) -> Result<(), PrintError>
+    ensures ok { OnOk result (Adds (K.written out.old) (string_bytes buffer.old) (K.written out.new) (string_bytes buffer.new) (flat_map bank_part banks.now)) }
+    ensures part { OnErr result (BreaksOff (K.written out.old) (string_bytes buffer.old) (K.written out.new) (flat_map bank_part banks.now)) }
+    ensures cause { result ≡ Err PrintError.Failed → Rose (K.write_faults out.old) (K.write_faults out.new) }
+    ensures later { K.write_faults out.old ≤ K.write_faults out.new }
+{
+    for bank in banks {
+        push_bank(alloc, out, buffer, bank)?;
+    }
+    Ok(())
+}
+
+// The head line of a bank, and its entries.
+fn push_bank<K: Sink>(
+    alloc: Global,
+    out: &mut K,
+    buffer: &mut String,
+    bank: &BankTrace,
+) -> Result<(), PrintError>
+    ensures ok { OnOk result (Adds (K.written out.old) (string_bytes buffer.old) (K.written out.new) (string_bytes buffer.new) (bank_part bank.now)) }
+    ensures part { OnErr result (BreaksOff (K.written out.old) (string_bytes buffer.old) (K.written out.new) (bank_part bank.now)) }
+    ensures cause { result ≡ Err PrintError.Failed → Rose (K.write_faults out.old) (K.write_faults out.new) }
+    ensures later { K.write_faults out.old ≤ K.write_faults out.new }
+{
+    push_head(alloc, out, buffer, bank)?;
+    push_entries(alloc, out, buffer, bank.entries.as_slice())
+}
+
+// A line of the zone and the number of a bank, and how many entries it has.
+fn push_head<K: Sink>(
+    alloc: Global,
+    out: &mut K,
+    buffer: &mut String,
+    bank: &BankTrace,
+) -> Result<(), PrintError>
+    ensures ok { OnOk result (Adds (K.written out.old) (string_bytes buffer.old) (K.written out.new) (string_bytes buffer.new) (bank_head bank.now)) }
+    ensures part { OnErr result (BreaksOff (K.written out.old) (string_bytes buffer.old) (K.written out.new) (bank_head bank.now)) }
+    ensures cause { result ≡ Err PrintError.Failed → Rose (K.write_faults out.old) (K.write_faults out.new) }
+    ensures later { K.write_faults out.old ≤ K.write_faults out.new }
+{
+    let line = head_line(alloc, bank.zone, bank.bank, bank.entries.len())?;
+    push(out, buffer, line.as_str())
+}
+
+fn head_line(alloc: Global, zone: u8, bank: u8, entries: usize) -> Result<String, AllocError>
+    ensures { IfOk result (λ line. string_bytes line ≡ codes "bank" ++ field (dec_text zone) ++ field (dec_text bank) ++ field (dec_text entries) ++ codes "\n") }
+{
+    format!(in alloc; "bank {zone} {bank} {entries}\n")
+}
+
+fn push_entries<K: Sink>(
+    alloc: Global,
+    out: &mut K,
+    buffer: &mut String,
+    entries: &[BankEntry],
+) -> Result<(), PrintError>
+    ensures ok { OnOk result (Adds (K.written out.old) (string_bytes buffer.old) (K.written out.new) (string_bytes buffer.new) (flat_map bank_line entries.now)) }
+    ensures part { OnErr result (BreaksOff (K.written out.old) (string_bytes buffer.old) (K.written out.new) (flat_map bank_line entries.now)) }
+    ensures cause { result ≡ Err PrintError.Failed → Rose (K.write_faults out.old) (K.write_faults out.new) }
+    ensures later { K.write_faults out.old ≤ K.write_faults out.new }
+{
+    for entry in entries {
+        push_entry(alloc, out, buffer, entry)?;
+    }
+    Ok(())
+}
+
+fn push_entry<K: Sink>(
+    alloc: Global,
+    out: &mut K,
+    buffer: &mut String,
+    entry: &BankEntry,
+) -> Result<(), PrintError>
+    ensures ok { OnOk result (Adds (K.written out.old) (string_bytes buffer.old) (K.written out.new) (string_bytes buffer.new) (bank_line entry.now)) }
+    ensures part { OnErr result (BreaksOff (K.written out.old) (string_bytes buffer.old) (K.written out.new) (bank_line entry.now)) }
+    ensures cause { result ≡ Err PrintError.Failed → Rose (K.write_faults out.old) (K.write_faults out.new) }
+    ensures later { K.write_faults out.old ≤ K.write_faults out.new }
+{
+    let line = entry_line(alloc, entry)?;
+    push(out, buffer, line.as_str())
+}
+
+// The line of an entry: the caller, the call, an arrow, the reply.
+fn entry_line(alloc: Global, entry: &BankEntry) -> Result<String, AllocError>
+    ensures { IfOk result (λ line. string_bytes line ≡ bank_line entry.now) }
+{
+    let caller = entry.caller;
+    let call = call_text(alloc, &entry.call)?;
+    let reply = reply_text(alloc, &entry.reply)?;
+    format!(in alloc; "{caller} {call} -> {reply}\n")
+}
