@@ -15,3 +15,5 @@ mod session;
 mod store;
 #[cfg(test)]
 mod trace;
+#[cfg(test)]
+mod trace_banks;

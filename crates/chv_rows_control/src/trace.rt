@@ -1,6 +1,7 @@
 // The lines of calls and replies that no scenario has yet, worked out from their format by hand, and outputs that fail.
 ghost use Rattle.std.specs.Prelude.{◌≡◌, []};
 
+use crate::trace_banks::push_banks;
 use chv_defs::{
     BookId, BusyAt, Bytes, ContextNote, ControlCall, ControlEntry, ControlReply, CpuNote,
     DiskCount, HandNote, MemAnswer, MemRequest, QueueFault, QueueNote, RegAccess, Role, Row, Rule,
@@ -63,9 +64,9 @@ const BUSY: MemAnswer = MemAnswer {
     }),
 };
 
-/// The text of the entries below and of a session that took two bytes and was replied none.
+/// The text of the entries below, of the two banks and of a session that took two bytes and was replied none.
 const TEXT: &str =
-    "trace 1\nscene 0\ncontrol 11\n1 take vcpu 3 -> done\n1 hand slot 2 7 8 1 2 512 1024 end sealed 1.2 5 9 order c 1.2 -> done\n1 hand slot 2 7 8 1 2 512 1024 end broken RingClosed 0x1000 order - -> done\n1 out 17 1 0xcf8 0x80 -> done\n1 mem 2 1 0x100000000 4 -> done\n1 ping -> rule BadImage 216\n1 ping -> taken cpu 1 4 1000 1 0xa 0xa 0xa 0xa 0xa 0xa 0xa 0xa 0xa 0xa 0xa 0xa 0xa 0xa 0xa 0xa\n1 ping -> value 0x1af4\n1 ping -> answer 1 2 7 18\n1 ping -> added {\"bdf\":\"0000:00:02.0\",\"id\":\"d1\"}\n1 ping -> restored c00f\nsession 1 ended\nask 4747\nreply -\nend\n";
+    "trace 1\nscene 0\ncontrol 11\n1 take vcpu 3 -> done\n1 hand slot 2 7 8 1 2 512 1024 end sealed 1.2 5 9 order c 1.2 -> done\n1 hand slot 2 7 8 1 2 512 1024 end broken RingClosed 0x1000 order - -> done\n1 out 17 1 0xcf8 0x80 -> done\n1 mem 2 1 0x100000000 4 -> done\n1 ping -> rule BadImage 216\n1 ping -> taken cpu 1 4 1000 1 0xa 0xa 0xa 0xa 0xa 0xa 0xa 0xa 0xa 0xa 0xa 0xa 0xa 0xa 0xa 0xa\n1 ping -> value 0x1af4\n1 ping -> answer 1 2 7 18\n1 ping -> added {\"bdf\":\"0000:00:02.0\",\"id\":\"d1\"}\n1 ping -> restored c00f\nbank 0 0 9\n0 shape 256 -> done\n1 write 0 4096 ab -> done\n1 read 0 4096 8 -> got ab00000000000000\n18 pin 3 5 2 -> pinned\n0 seal 5 1 -> busy 5 18\n18 unpin 3 -> done\n1 read 512 0 1 -> fault 512\n0 show -> pages 1\n0 wipe -> done\nbank 1 2 7\n0 open 512 4 -> done\n0 fill 513 511 c00f -> done\n0 seal 512 2 -> sealed\n0 unseal 512 1 -> done\n0 close 513 1 -> closed\n0 freeze -> done\n0 thaw -> done\nsession 1 ended\nask 4747\nreply -\nend\n";
 
 fn push_call(control: &mut Row<ControlEntry>, call: ControlCall) -> Result<(), AllocError> {
     control.push(ControlEntry {
@@ -160,7 +161,6 @@ fn push_session(
 fn no_trace(alloc: Global) -> Trace
     ensures disks { result.disks ≡ [] }
     ensures vcpus { result.vcpus ≡ [] }
-    ensures banks { result.banks ≡ [] }
 {
     Trace {
         disks: Row::empty(alloc),
@@ -171,13 +171,13 @@ fn no_trace(alloc: Global) -> Trace
     }
 }
 
-// The entries above, and a session that took two bytes.
+// The entries above, the two banks, and a session that took two bytes.
 fn fill_all(alloc: Global, trace: &mut Trace) -> Result<(), AllocError>
     ensures disks { trace.new.disks ≡ trace.old.disks }
     ensures vcpus { trace.new.vcpus ≡ trace.old.vcpus }
-    ensures banks { trace.new.banks ≡ trace.old.banks }
 {
     push_entries(alloc, &mut trace.control)?;
+    push_banks(alloc, &mut trace.banks)?;
     push_session(alloc, &mut trace.sessions, 2)
 }
 
@@ -185,7 +185,6 @@ fn fill_all(alloc: Global, trace: &mut Trace) -> Result<(), AllocError>
 fn fill_ping(alloc: Global, trace: &mut Trace, asked: usize) -> Result<(), AllocError>
     ensures disks { trace.new.disks ≡ trace.old.disks }
     ensures vcpus { trace.new.vcpus ≡ trace.old.vcpus }
-    ensures banks { trace.new.banks ≡ trace.old.banks }
 {
     push_call(&mut trace.control, ControlCall::Ping)?;
     push_call(&mut trace.control, ControlCall::Bye)?;
@@ -196,13 +195,12 @@ fn fill_ping(alloc: Global, trace: &mut Trace, asked: usize) -> Result<(), Alloc
 fn prints(alloc: Global, trace: &Trace, text: &str) -> Result<bool, AllocError>
     requires disks { trace.now.disks ≡ [] }
     requires vcpus { trace.now.vcpus ≡ [] }
-    requires banks { trace.now.banks ≡ [] }
 {
     let mut out = MemSink::new(alloc, 2000, numbers(alloc, &[])?)?;
     Ok(print(alloc, trace, &mut out).is_ok() && out.written() == text.as_bytes())
 }
 
-// Whether the trace of the entries above is printed so.
+// Whether the trace of all these is printed so.
 fn is_printed(alloc: Global, text: &str) -> Result<bool, AllocError> {
     let mut trace = no_trace(alloc);
     let filled = fill_all(alloc, &mut trace);
@@ -219,7 +217,6 @@ type Printed = (Result<(), PrintError>, usize);
 fn printed(alloc: Global, trace: &Trace, failing: u64) -> Result<Printed, AllocError>
     requires disks { trace.now.disks ≡ [] }
     requires vcpus { trace.now.vcpus ≡ [] }
-    requires banks { trace.now.banks ≡ [] }
 {
     let mut out = MemSink::new(alloc, 200_000, numbers(alloc, &[failing])?)?;
     Ok((print(alloc, trace, &mut out), out.written().len()))

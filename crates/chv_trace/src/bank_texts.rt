@@ -31,11 +31,7 @@ pub(crate) fn call_text(alloc: Global, call: &BankCall) -> Result<String, AllocE
         ),
         BankCall::Show => String::from_str(alloc, "show"),
         BankCall::Read { block, offset, len } => three_numbers(
-            alloc,
-            "read",
-            *block,
-            *offset,
-            *len,
+            alloc, "read", *block, *offset, *len,
         ),
         BankCall::Write {
             block,
@@ -43,11 +39,7 @@ pub(crate) fn call_text(alloc: Global, call: &BankCall) -> Result<String, AllocE
             bytes,
         } => place_and_bytes(alloc, "write", *block, *offset, bytes),
         BankCall::Pin { number, span } => three_numbers(
-            alloc,
-            "pin",
-            *number,
-            span.first,
-            span.count,
+            alloc, "pin", *number, span.first, span.count,
         ),
         BankCall::Unpin { number } => one_number(alloc, "unpin", *number),
     }
