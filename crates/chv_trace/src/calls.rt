@@ -3,7 +3,7 @@ ghost use Rattle.std.specs.Prelude.{◌≡◌, IfOk, string_bytes};
 ghost use Rattle.chv_defs.specs.TraceText as text;
 
 use crate::accesses::access_text;
-use crate::fields::{after_word, number_or_dash};
+use crate::fields::{after_text, after_word, number_or_dash};
 use crate::notes::hand_text;
 use chv_defs::{ControlCall, Goal, MemRequest, Role};
 use chv_json::{config_text, disk_text, quoted_text};
@@ -17,23 +17,15 @@ pub(crate) fn call_text(alloc: Global, call: &ControlCall) -> Result<String, All
         ControlCall::Ping => String::from_str(alloc, "ping"),
         ControlCall::Info => String::from_str(alloc, "info"),
         ControlCall::Counters => String::from_str(alloc, "counters"),
-        ControlCall::Create(config) => after_word(
-            alloc,
-            "create ",
-            config_text(alloc, config)?.as_str(),
-        ),
+        ControlCall::Create(config) => after_text(alloc, "create ", config_text(alloc, config)),
         ControlCall::Boot => String::from_str(alloc, "boot"),
         ControlCall::Begin(goal) => after_word(alloc, "begin ", goal_text(*goal)),
         ControlCall::Settle => String::from_str(alloc, "settle"),
         ControlCall::Resume => String::from_str(alloc, "resume"),
         ControlCall::Resize { vcpus, ram } => resize_text(alloc, *vcpus, *ram),
         ControlCall::ResizeZone { zone, ram } => zone_text(alloc, zone.as_str(), *ram),
-        ControlCall::AddDisk(disk) => after_word(alloc, "add ", disk_text(alloc, disk)?.as_str()),
-        ControlCall::Remove(id) => after_word(
-            alloc,
-            "remove ",
-            quoted_text(alloc, id.as_str())?.as_str(),
-        ),
+        ControlCall::AddDisk(disk) => after_text(alloc, "add ", disk_text(alloc, disk)),
+        ControlCall::Remove(id) => after_text(alloc, "remove ", quoted_text(alloc, id.as_str())),
         ControlCall::Snapshot(name) => after_word(alloc, "snapshot ", name.as_str()),
         ControlCall::Restore(name) => after_word(alloc, "restore ", name.as_str()),
         ControlCall::Bye => String::from_str(alloc, "bye"),

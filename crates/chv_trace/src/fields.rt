@@ -1,9 +1,9 @@
 // The fields of a line.
-ghost use Rattle.std.specs.Prelude.{◌≡◌, ◌++◌, IfOk, flat_map, string_bytes};
+ghost use Rattle.std.specs.Prelude.{◌≡◌, ◌++◌, IfOk, IsOkAnd, flat_map, string_bytes};
 ghost use Rattle.chv_defs.specs.ScriptText.{field};
 ghost use Rattle.chv_defs.specs.TraceText as text;
 
-use chv_defs::BookId;
+use chv_defs::{BookId, Text};
 use std::alloc::{AllocError, Global};
 
 /// A word and what follows it.
@@ -13,6 +13,17 @@ pub(crate) fn after_word(alloc: Global, word: &str, rest: &str) -> Result<String
     let mut joined = String::from_str(alloc, word)?;
     joined.push_str(rest)?;
     Ok(joined)
+}
+
+/// A word and a text, where there is one; else the error. It stands in the place of a `?`, so that the text is dropped here.
+pub(crate) fn after_text(
+    alloc: Global,
+    word: &str,
+    rest: Result<Text, AllocError>,
+) -> Result<String, AllocError>
+    ensures { IfOk result (λ joined. IsOkAnd rest (λ text. string_bytes joined ≡ word.now ++ text)) }
+{
+    after_word(alloc, word, rest?.as_str())
 }
 
 /// A number, or a dash where it is absent.

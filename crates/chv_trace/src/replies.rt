@@ -3,7 +3,7 @@ ghost use Rattle.std.specs.Prelude.{◌≡◌, IfOk, string_bytes};
 ghost use Rattle.chv_defs.specs.JsonTexts.{device_text};
 ghost use Rattle.chv_defs.specs.TraceText as text;
 
-use crate::fields::after_word;
+use crate::fields::{after_text, after_word};
 use crate::notes::note_text;
 use chv_defs::{BusyAt, ControlReply, DeviceInfo, MemAnswer, Rule, Text};
 use chv_json::{counters_text, device_text, info_text};
@@ -16,11 +16,11 @@ pub(crate) fn reply_text(alloc: Global, reply: &ControlReply) -> Result<String, 
 {
     match reply {
         ControlReply::Done => String::from_str(alloc, "done"),
-        ControlReply::Shown(info) => after_word(alloc, "shown ", info_text(alloc, info)?.as_str()),
-        ControlReply::Counted(counts) => after_word(
+        ControlReply::Shown(info) => after_text(alloc, "shown ", info_text(alloc, info)),
+        ControlReply::Counted(counts) => after_text(
             alloc,
             "counted ",
-            counters_text(alloc, counts)?.as_str(),
+            counters_text(alloc, counts),
         ),
         ControlReply::Added { id, slot } => added_text(alloc, id, *slot),
         ControlReply::Holding => String::from_str(alloc, "holding"),
@@ -39,7 +39,7 @@ pub(crate) fn reply_text(alloc: Global, reply: &ControlReply) -> Result<String, 
 fn added_text(alloc: Global, id: &Text, slot: u8) -> Result<String, AllocError>
     ensures { IfOk result (λ shown. string_bytes shown ≡ text.reply_text (ControlReply.Added id.now slot)) }
 {
-    after_word(alloc, "added ", device(alloc, id, slot)?.as_str())
+    after_text(alloc, "added ", device(alloc, id, slot))
 }
 
 fn device(alloc: Global, id: &Text, slot: u8) -> Result<Text, AllocError>
