@@ -1,7 +1,6 @@
 -- Banks to which nothing happened yet are at rest.
-use Rattle.std.proofs.Common.{◌≡◌, ℕ, ◌+◌, ◌*◌, ◌<◌, ◌≤◌, Bool, true, false, Option, None, Some, refl, sym, ◌∙◌, ap, subst, arith, length, get_or, map}
+use Rattle.std.proofs.Common.{◌≡◌, ℕ, ◌<◌, ◌≤◌, Bool, true, false, Option, None, Some, refl, sym, subst, arith, length}
 use Rattle.std.specs.Prelude.{◌&&◌, nat_le}
-use Rattle.std.specs.List.{range_with_len}
 use Rattle.std.proofs.lemmas.List.FromFn.{get_or-map-range_with_len}
 use Rattle.std.proofs.lemmas.Bool.Decides.{nat_tests}
 use Rattle.chv_defs.specs.declared.config.Checked.{Checked}
@@ -13,8 +12,7 @@ use Rattle.chv_defs.specs.ApiStep.{is_paused}
 use Rattle.chv_defs.specs.BankBook.{BankBook, fresh}
 use Rattle.chv_defs.specs.BankState.{banks}
 use Rattle.chv_defs.specs.Machine.{HasChecked, IsUnpaused}
-use Rattle.chv_defs.specs.OwnerCalls.{zones_in, zones_of}
-use Rattle.chv_defs.specs.Zones.{Known}
+use Rattle.chv_defs.specs.OwnerCalls.{zones_in}
 use Rattle.chv_guest.specs.LentBanks.{bank_at, bank_count, fresh_at, fresh_banks, known_at, place_of}
 use Rattle.chv_addr.proofs.Limits.{checked-within}
 use Rattle.chv_ctl_mem.specs.ZoneCalls.{AreAtRest, IsAtRest}
@@ -33,7 +31,7 @@ few_zones (Some now) checked = at_most _ (first _ _ (checked-within now checked)
 
 -- a bank to which nothing happened
 fresh_there : (z b : ℕ) → z < 8 → b < banks → bank_at fresh_banks z b ≡ fresh_at (place_of z b)
-fresh_there z b zone bank = get_or-map-range_with_len fresh_at 0 bank_count (place_of z b) (place_of z b) (fresh z b) (omega (arith, zone, bank)) refl
+fresh_there z b zone bank = get_or-map-range_with_len fresh_at 0 bank_count (place_of z b) (place_of z b) (fresh z b) (omega (arith, zone, bank)) (omega arith)
 
 pub fresh-at-rest : (m : Machine) → HasChecked m.config → AreAtRest false m (known_at fresh_banks)
 fresh-at-rest m checked z b zone bank =
