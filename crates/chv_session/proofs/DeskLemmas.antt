@@ -1,5 +1,5 @@
 -- What a session makes at its desk.
-use Rattle.std.proofs.Common.{◌≡◌, ◌⊎◌, ℕ, Bool, true, false, List, [], ◌∷◌, ◌++◌, Option, Some, None, Result, Ok, Err, IfOk, OnErr, refl, sym, ap, subst, ◌∙◌, inl, inr, append_assoc, if◌then◌else◌}
+use Rattle.std.proofs.Common.{◌≡◌, ℕ, Bool, true, false, List, [], ◌∷◌, ◌++◌, Option, Some, None, Result, Ok, Err, IfOk, OnErr, refl, sym, ap, subst, ◌∙◌, inl, inr, append_assoc, if◌then◌else◌}
 use Rattle.std.specs.Prelude.{MatchResult}
 use Rattle.chv_defs.specs.declared.rule.Rule.{Rule}
 use Rattle.chv_defs.specs.declared.rule.Rule.TheVariants.{NoRoute}
@@ -10,16 +10,17 @@ use Rattle.chv_defs.specs.declared.control.ControlReply.{ControlReply}
 use Rattle.chv_defs.specs.declared.control.ControlReply.TheVariants as reply
 use Rattle.chv_defs.specs.declared.session.SessionEnd.{SessionEnd}
 use Rattle.chv_defs.specs.declared.session.SessionEnd.TheVariants as end
-use Rattle.chv_defs.specs.Machine.{IsSession}
 use Rattle.chv_defs.specs.Desks.{Answer, is_held, is_holding, can_have, is_session_call}
 use Rattle.chv_defs.specs.JsonBodies.{◌>>=◌}
 use Rattle.chv_defs.specs.Routes.{call_of_request, call_named, get_call, put_call, reply_to_call, route_name}
-use Rattle.chv_defs.specs.SessionBytes.{Makes, Holds, AnsweredBy}
+use Rattle.chv_defs.specs.SessionBytes.{Makes, AnsweredBy}
 use Rattle.chv_session.specs.declared.respond.Then.TheVariants as then_is
 use Rattle.chv_session.specs.declared.respond.Response.{Response}
 use Rattle.chv_session.specs.declared.respond.Made.{Made}
-use Rattle.chv_session.specs.Response.{HasMadeAlso, Leaves, Serves, BreaksIn, is_bye, then_after}
-use Rattle.chv_session.specs.Making.{Settles, IsAnswer, StopsAt, MakesCall, ServesCall, last_call}
+use Rattle.chv_session.specs.declared.state.State.{State}
+use Rattle.chv_session.specs.declared.state.State.TheVariants as state
+use Rattle.chv_session.specs.Response.{HasMadeAlso, Finishes, Serves, BreaksIn, is_bye}
+use Rattle.chv_session.specs.Making.{Settles, IsAnswer, MakesCall, ServesCall, last_call}
 
 -- ---- what is held
 
@@ -48,14 +49,15 @@ settles_held r result before after refused refused_after holding settles =
 
 -- ---- the Bye of an end
 
--- the end, by what its Bye was answered
-pub leaves_by : {S : Type 0} (how came : SessionEnd) (answer : Result ControlReply S) (before after : List Answer)
-    (refused refused_after : Option ControlCall) → MatchResult answer (λ _. came ≡ how) (λ _. came ≡ end.Stopped)
+-- where the session stands, by what its Bye was answered
+pub leaves_by : {S : Type 0} (how : SessionEnd) (stands : State) (answer : Result ControlReply S) (before after : List Answer)
+    (refused refused_after : Option ControlCall) → MatchResult answer (λ _. stands ≡ state.Ended how) (λ _. stands ≡ state.Ended end.Stopped)
     → IfOk answer (λ r. (after ≡ before ++ record { call = call.Bye; reply = r } ∷ []) × (refused_after ≡ refused))
-    → OnErr answer ((after ≡ before) × (refused_after ≡ Some call.Bye)) → Leaves how came before after refused refused_after
-leaves_by how came (Ok r) before after refused refused_after is made halted =
-    inl (record { call = call.Bye; reply = r }, is, refl, made.0, made.1)
-leaves_by how came (Err stopped) before after refused refused_after is made halted = inr (is, halted.0, halted.1)
+    → OnErr answer ((after ≡ before) × (refused_after ≡ Some call.Bye))
+    → Finishes (then_is.End how) stands before after refused refused_after
+leaves_by how stands (Ok r) before after refused refused_after is made halted =
+    (how, is, inl (record { call = call.Bye; reply = r }, refl, refl, made.0, made.1))
+leaves_by how stands (Err stopped) before after refused refused_after is made halted = (end.Stopped, is, inr (refl, halted.0, halted.1))
 
 -- ---- a call and its Settle
 

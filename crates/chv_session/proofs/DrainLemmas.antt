@@ -1,5 +1,6 @@
 -- A session that found neither a request nor a refusal below the limit came to the end of its stream, or a read failed.
-use Rattle.std.proofs.Common.{◌≡◌, ◌≤◌, ◌<◌, ◌⊎◌, inl, inr, ℕ, Bool, List, [], ◌++◌, length, Option, None, Some, IfSome, refl, sym, ap, subst, ◌∙◌, arith}
+use Rattle.std.proofs.Common.{◌≡◌, ◌≤◌, ◌<◌, ◌⊎◌, inl, inr, ℕ, Bool, List, [], ◌++◌, length, Option, None, Some, IfSome, Result, Ok, Err, IfOk, refl, sym, subst, ◌∙◌, arith}
+use Rattle.std.specs.Prelude.{MatchResult}
 use Rattle.std.proofs.lemmas.List.{append_cancel_left}
 use Rattle.chv_defs.specs.declared.control.ControlCall.{ControlCall}
 use Rattle.chv_defs.specs.declared.request.Took.TheVariants as took
@@ -18,6 +19,7 @@ use Rattle.chv_session.specs.declared.respond.Then.{Then}
 use Rattle.chv_session.specs.declared.respond.Then.TheVariants as then_is
 use Rattle.chv_session.specs.declared.state.State.{State}
 use Rattle.chv_session.specs.declared.state.State.TheVariants as state
+use Rattle.chv_session.specs.Talk.{Talk}
 use Rattle.chv_session.specs.Found.{IsFound, Finds, IsDrained, IsCaused}
 use Rattle.chv_session.specs.Response.{Responds, Sends, Leaves, Finishes}
 use Rattle.chv_session.specs.Step.{said_at}
@@ -81,3 +83,15 @@ drains_is what all response planned then_of stands asked asked_after rest rest_a
     (drains_at what all response planned then_of stands (rest ++ finds.0) rest_after asked_after replied replied_after put put_after left responds.0 before after
     refused refused_then refused_middle refused_after faults faults_after reads reads_then reads_after finds.2 drained caused later responds.2 sends finishes
     (subst (λ (m : List ℕ). IsShort (rest ++ m)) is short) below)
+
+-- and so it is where a step left the session
+pub left_drains : {E : Type 0} (left : Result State E) (result : Result Next E) (stood : State) (inside before : Talk) (asked_after : List ℕ)
+    (reads reads_after : ℕ) (over : Option (List ℕ)) → inside ≡ before
+    → IfOk left (λ stands. Drains (said_at stands) inside.asked asked_after inside.rest reads reads_after over)
+    → MatchResult left (λ stands. (stood ≡ stands) × (result ≡ Ok (said_at stands))) (λ error. (stood ≡ state.Lost) × (result ≡ Err error))
+    → IfOk result (λ what. Drains what before.asked asked_after before.rest reads reads_after over)
+left_drains (Ok stands) result stood inside before asked_after reads reads_after over same drains is =
+    subst (λ r. IfOk r (λ what. Drains what before.asked asked_after before.rest reads reads_after over)) (sym is.1)
+    (subst (λ (t : Talk). Drains (said_at stands) t.asked asked_after t.rest reads reads_after over) same drains)
+left_drains (Err error) result stood inside before asked_after reads reads_after over same drains is =
+    subst (λ r. IfOk r (λ what. Drains what before.asked asked_after before.rest reads reads_after over)) (sym is.1) tt

@@ -34,18 +34,25 @@ pub(crate) struct Response {
     pub then: Then,
 }
 
-/// A reply to a request. The session leaves behind a last one.
+/// What comes behind the reply to a request. The session leaves behind a last one.
+fn behind(last: bool) -> Then
+    ensures { result ≡ then_after last }
+{
+    if last {
+        Then::Leave(SessionEnd::Closed)
+    } else {
+        Then::GoOn
+    }
+}
+
+/// A reply to a request.
 fn answered(bytes: Bytes, last: bool) -> Response
     ensures reply { result.reply ≡ Some bytes }
     ensures then { result.then ≡ then_after last }
 {
     Response {
         reply: Some(bytes),
-        then: if last {
-            Then::Leave(SessionEnd::Closed)
-        } else {
-            Then::GoOn
-        },
+        then: behind(last),
     }
 }
 

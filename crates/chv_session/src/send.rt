@@ -3,7 +3,7 @@ ghost use Rattle.std.specs.Prelude.{◌≡◌, ◌≢◌, ◌≤◌, true, None,
 ghost use Rattle.chv_defs.specs.Machine.{IsSession};
 ghost use Rattle.chv_defs.specs.Desks.{IsOnlyAsked};
 ghost use Rattle.chv_defs.specs.Links.{WriteLeaves};
-ghost use Rattle.chv_session.specs.Response.{Sends, Leaves, Finishes, IsEnd};
+ghost use Rattle.chv_session.specs.Response.{Sends, Finishes, IsEnd};
 ghost use Rattle.chv_session.specs.Step.{said_at};
 ghost use Rattle.chv_session.specs.Wire.{Closes, StaysButClosed};
 
@@ -44,17 +44,17 @@ pub(crate) fn send<K: Link>(
     }
 }
 
-/// Ends a session so: closes the connection, and makes the call Bye. Answers the end, which is Stopped where the run
-/// stopped at the Bye.
+/// Ends a session so: closes the connection, and makes the call Bye. Answers where the session stands then: it has ended
+/// so, or Stopped where the run stopped at the Bye.
 pub(crate) fn leave<R: Copy, K: Link, T: Desk<R>>(
     rt: R,
     link: &mut K,
     desk: &mut T,
     end: SessionEnd,
-) -> Result<SessionEnd, AllocError>
+) -> Result<State, AllocError>
     requires { IsSession (T.caller desk.old) }
     ensures caller { T.caller desk.new ≡ T.caller desk.old }
-    ensures leaves { IfOk result (λ came. Leaves end came (T.answers desk.old) (T.answers desk.new)
+    ensures leaves { IfOk result (λ stands. Finishes (Then.End end) stands (T.answers desk.old) (T.answers desk.new)
         (T.refused desk.old) (T.refused desk.new)) }
     ensures err { OnErr result (T.answers desk.new ≡ T.answers desk.old) }
     ensures err_goes_on { OnErr result (T.refused desk.new ≡ T.refused desk.old) }
@@ -69,13 +69,13 @@ pub(crate) fn leave<R: Copy, K: Link, T: Desk<R>>(
     Ok(end_by(answer, end))
 }
 
-/// The end, by what its Bye was answered.
-fn end_by<T: Drop>(answer: Result<T, Stopped>, end: SessionEnd) -> SessionEnd
-    ensures { MatchResult answer (λ _. result ≡ end) (λ _. result ≡ SessionEnd.Stopped) }
+/// Where a session stands whose Bye was answered so. It has ended, and makes no further Bye.
+fn end_by<T: Drop>(answer: Result<T, Stopped>, end: SessionEnd) -> State
+    ensures { MatchResult answer (λ _. result ≡ State.Ended end) (λ _. result ≡ State.Ended SessionEnd.Stopped) }
 {
     match answer {
-        Ok(_) => end,
-        Err(Stopped) => SessionEnd::Stopped,
+        Ok(_) => State::Ended(end),
+        Err(Stopped) => State::Ended(SessionEnd::Stopped),
     }
 }
 
@@ -106,6 +106,6 @@ pub(crate) fn finish<R: Copy, K: Link, T: Desk<R>>(
             link.close();
             Ok(State::Ended(SessionEnd::Stopped))
         }
-        Then::End(end) => Ok(State::Ended(leave(rt, link, desk, end)?)),
+        Then::End(end) => leave(rt, link, desk, end),
     }
 }

@@ -1,5 +1,5 @@
 // The session of one connection.
-ghost use Rattle.std.specs.Prelude.{◌≡◌, ◌≢◌, ◌≤◌, true, false, vec_len, IfOk, OnErr};
+ghost use Rattle.std.specs.Prelude.{◌≡◌, ◌≢◌, ◌≤◌, true, false, vec_len, IfOk, MatchResult, OnErr, Ok, Err};
 ghost use Rattle.chv_defs.specs.Machine.{IsSession};
 ghost use Rattle.chv_defs.specs.Desks.{IsOnlyAsked, is_held};
 ghost use Rattle.chv_defs.specs.SessionBytes.{session_limit};
@@ -106,6 +106,23 @@ fn said(stands: State) -> Next
     }
 }
 
+/// Has a session stand where a call left it, and answers what that call says. Want of memory leaves it lost.
+fn stand(state: &mut State, left: Result<State, AllocError>) -> Result<Next, AllocError>
+    ensures { MatchResult left (λ stands. (state.new ≡ stands) × (result ≡ Ok (said_at stands)))
+        (λ error. (state.new ≡ State.Lost) × (result ≡ Err error)) }
+{
+    match left {
+        Ok(stands) => {
+            *state = stands;
+            Ok(said(stands))
+        }
+        Err(error) => {
+            *state = State::Lost;
+            Err(error)
+        }
+    }
+}
+
 impl Session {
     /// A session of which nothing came so far.
     pub fn new(alloc: Global) -> Result<Session, AllocError>
@@ -174,34 +191,22 @@ impl Session {
         match self.state {
             State::Ended(end) => Ok(Next::Ended(end)),
             State::Lost => Err(AllocError),
-            State::Leaving(end) => match leave(rt, link, desk, end) {
-                Ok(end) => {
-                    self.state = State::Ended(end);
-                    Ok(Next::Ended(end))
-                }
-                Err(error) => {
-                    self.state = State::Lost;
-                    Err(error)
-                }
-            },
-            State::Open => match step(
-                self.alloc,
-                &mut self.parser,
-                &mut self.asked,
-                &mut self.replied,
-                rt,
-                link,
-                desk,
-            ) {
-                Ok(stands) => {
-                    self.state = stands;
-                    Ok(said(stands))
-                }
-                Err(error) => {
-                    self.state = State::Lost;
-                    Err(error)
-                }
-            },
+            State::Leaving(end) => {
+                let left = leave(rt, link, desk, end);
+                stand(&mut self.state, left)
+            }
+            State::Open => {
+                let left = step(
+                    self.alloc,
+                    &mut self.parser,
+                    &mut self.asked,
+                    &mut self.replied,
+                    rt,
+                    link,
+                    desk,
+                );
+                stand(&mut self.state, left)
+            }
         }
     }
 

@@ -8,7 +8,7 @@ settle_held-requires-clause-held g c = held_after _ _ _ (rw c.in-Ok.is at c.in_o
 pub returns-in-Ok-clause-makes : goal.returns-in-Ok-clause-makes
 returns-in-Ok-clause-makes g c =
     let answered = rw c.in-Ok.is at c.in_ok-reply.ensures.answered in
-    makes_settled _ _ _ _ _ _ _ _ _ answered.0 answered.1 c.settle_held.ensures.settles
+    makes_settled _ (g.T.Desk.answers c.ask.new.self) _ _ _ _ _ _ _ answered.0 answered.1 c.settle_held.ensures.settles
 
 pub returns-in_err-reply-clause-asked : goal.returns-in_err-reply-clause-asked
 returns-in_err-reply-clause-asked g c = asked_one _ _ _ _ c.ask.ensures.asked

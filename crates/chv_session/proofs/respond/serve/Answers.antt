@@ -1,4 +1,4 @@
-use Rattle.chv_session.proofs.DeskLemmas.{request_asks, serves_ok, serves_err, serves_goes_on}
+use Rattle.chv_session.proofs.DeskLemmas.{request_asks, serves_ok, serves_err}
 use Rattle.chv_session.proofs.respond.serve.Goals as goal
 
 pub serve_call-response-requires-clause-api : goal.serve_call-response-requires-clause-api
