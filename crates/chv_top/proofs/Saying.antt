@@ -1,5 +1,6 @@
 -- What is said of a run from what was read and written.
-use Rattle.std.proofs.Common.{◌≡◌, ◌≤◌, ◌<◌, ◌+◌, ◌⊎◌, ◌++◌, ◌∷◌, [], ℕ, Bool, true, false, List, Option, None, Some, IfSome, Result, Ok, Err, length, take, nat_lt, if◌then◌else◌, refl, sym, ◌∙◌, ap, subst, ⊎_elim, inl, inr, arith, length-append}
+use Rattle.std.proofs.Common.{◌≡◌, ◌≤◌, ◌<◌, ◌+◌, ◌++◌, ◌∷◌, [], ℕ, List, Option, None, Some, IfSome, Result, Ok, Err, IfOk, length, if◌then◌else◌, refl, sym, ◌∙◌, ap, subst, ⊎_elim, inl, inr, arith, length-append}
+use Rattle.std.specs.Prelude.{IfErr, MatchResult}
 use Rattle.std.proofs.lemmas.List.{append-nil}
 use Rattle.std.proofs.lemmas.Bool.{le-ltb, lt-ltb}
 use Rattle.std.proofs.Math.Seq.{take-length}
@@ -8,17 +9,16 @@ use Rattle.chv_defs.specs.declared.scene.OnShelf.{OnShelf}
 use Rattle.chv_defs.specs.declared.scene.Scene.{Scene}
 use Rattle.chv_defs.specs.declared.trace.Trace.{Trace}
 use Rattle.chv_defs.specs.declared.context.StopCause.{StopCause}
-use Rattle.chv_defs.specs.declared.context.StopCause.TheVariants as cause
-use Rattle.chv_defs.specs.Outside.{Rose, Gains, GainsPart, Loses}
+use Rattle.chv_defs.specs.Outside.{Gains, GainsPart}
 use Rattle.chv_defs.specs.ProgramText.{full_line, read_fault_line, scene_fault_line, too_long_line}
 use Rattle.chv_defs.specs.ScenarioText.{Fault, Sessions, read_scenario}
-use Rattle.chv_defs.specs.Schedule.{Stage, schedule, trace_at, trace_of, trace_of_streams}
+use Rattle.chv_defs.specs.Schedule.{Stage, schedule, trace_at, trace_of}
 use Rattle.chv_defs.specs.TraceText.{trace_text}
-use Rattle.chv_play.specs.Played.{Comes, IsLegalRun}
+use Rattle.chv_play.specs.Played.{Comes}
 use Rattle.chv_play.proofs.CallerLemmas.{scheduled_of_sessions}
 use Rattle.chv_scene.specs.Answer.{answer_of, scene_of}
-use Rattle.chv_top.specs.Outcome.{IsComplete, IsFull, IsInput, IsOwed, IsPartOfOwed, IsPlayed, IsRead, IsRefused, IsTooLong, most_input, of_scenario, of_schedule, outcome_of, status_of, text_of, TooLong, Refused, Fills, Gives, Outcome}
-use Rattle.chv_top.specs.Says.{IsPlain, IsScene, Reports, ReportsFull, ReportsTrace, Says, StopsBy, Tells, Writes}
+use Rattle.chv_top.specs.Outcome.{IsComplete, IsInput, IsRead, most_input, of_scenario, of_schedule, outcome_of, status_of, text_of, TooLong, Refused}
+use Rattle.chv_top.specs.Says.{IsPlain, IsScene, Reports, ReportsFull, ReportsTrace, Says, StopsBy, Tells}
 use Rattle.chv_control.specs.Shelf as control
 use Rattle.chv_scene.specs.declared.scenario.SceneFault.{SceneFault}
 use Rattle.chv_top.specs.Given.{as_given, handed_in}
@@ -243,3 +243,34 @@ fault_is (Err f) fault e =
   where
     err_fault : SceneFault → Result Sessions Fault
     err_fault x = Err (record { line = x.line; reason = x.reason })
+
+-- what a scenario that was read whole comes to
+pub scene_read : {E : Type 0} (read : Result (Result Scene SceneFault) E) (result : Result Scene Stop) (left left_after : Option (List ℕ)) (text slice : List ℕ)
+    → slice ≡ text → IsRead left left_after text → IfOk read (λ answer. answer ≡ answer_of (read_scenario slice))
+    → IfOk read (λ answer. IfOk answer (λ scene. length scene.sessions ≤ 16))
+    → MatchResult read (λ answer. MatchResult answer (λ scene. result ≡ Ok scene) (λ fault. result ≡ Err (stop.Scene fault))) (λ _. result ≡ Err stop.Memory)
+    → IfOk result (λ scene. IsScene left left_after scene)
+scene_read (Ok (Ok scene)) result left left_after text slice same whole answers few is =
+    subst (λ r. IfOk r (λ scene. IsScene left left_after scene)) (sym is) (record {
+      text = text;
+      read = whole;
+      scenario = scene_is (read_scenario text) scene (answers ∙ ap (λ t. answer_of (read_scenario t)) same);
+      few = few;
+    })
+scene_read (Ok (Err fault)) result left left_after text slice same whole answers few is =
+    subst (λ r. IfOk r (λ scene. IsScene left left_after scene)) (sym is) tt
+scene_read (Err error) result left left_after text slice same whole answers few is =
+    subst (λ r. IfOk r (λ scene. IsScene left left_after scene)) (sym is) tt
+
+-- why there is none in a text that was read whole
+pub scene_stops : {E : Type 0} (read : Result (Result Scene SceneFault) E) (result : Result Scene Stop) (left left_after : Option (List ℕ)) (reads reads_after : ℕ)
+    (text slice : List ℕ) → slice ≡ text → IsRead left left_after text → IfOk read (λ answer. answer ≡ answer_of (read_scenario slice))
+    → MatchResult read (λ answer. MatchResult answer (λ scene. result ≡ Ok scene) (λ fault. result ≡ Err (stop.Scene fault))) (λ _. result ≡ Err stop.Memory)
+    → IfErr result (λ why. StopsBy left left_after reads reads_after why)
+scene_stops (Ok (Ok scene)) result left left_after reads reads_after text slice same whole answers is =
+    subst (λ r. IfErr r (λ why. StopsBy left left_after reads reads_after why)) (sym is) tt
+scene_stops (Ok (Err fault)) result left left_after reads reads_after text slice same whole answers is =
+    subst (λ r. IfErr r (λ why. StopsBy left left_after reads reads_after why)) (sym is)
+    (text, whole, fault_is (read_scenario text) fault (answers ∙ ap (λ t. answer_of (read_scenario t)) same))
+scene_stops (Err error) result left left_after reads reads_after text slice same whole answers is =
+    subst (λ r. IfErr r (λ why. StopsBy left left_after reads reads_after why)) (sym is) tt

@@ -1,5 +1,5 @@
 -- Lines from their parts.
-use Rattle.std.proofs.Common.{◌≡◌, ℕ, List, [], ◌∷◌, ◌++◌, codes, Result, Ok, Err, IfOk, sym, ◌∙◌, ap, append_assoc}
+use Rattle.std.proofs.Common.{◌≡◌, ℕ, List, ◌∷◌, ◌++◌, codes, Result, Ok, Err, IfOk, sym, ◌∙◌, ap, append_assoc}
 use Rattle.chv_defs.specs.ScriptText.{field}
 
 -- what is printed is the same text

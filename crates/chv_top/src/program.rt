@@ -1,5 +1,5 @@
 // The program's calls.
-ghost use Rattle.std.specs.Prelude.{◌≡◌, ◌≤◌, List, Result, IfOk, IfErr, IfSome, length};
+ghost use Rattle.std.specs.Prelude.{◌≡◌, ◌≤◌, ◌<◌, true, false, List, Result, Ok, Err, IfOk, IfErr, IfSome, MatchResult, length};
 ghost use Rattle.chv_defs.specs.declared.scene.OnShelf.{OnShelf};
 ghost use Rattle.chv_defs.specs.declared.bank.Full as defs_full;
 ghost use Rattle.chv_defs.specs.declared.trace.Trace as defs_trace;
@@ -19,7 +19,7 @@ use chv_io::{Disk, Sink, Source};
 use chv_play::play;
 use chv_scene::SceneFault;
 use chv_trace::{PrintError, print};
-use std::alloc::Global;
+use std::alloc::{AllocError, Global};
 
 /// The most bytes that an input has.
 const MOST_INPUT: usize = 16_777_216;
@@ -73,10 +73,26 @@ fn scene_in<S: Source>(alloc: Global, input: &mut S) -> Result<Scene, Stop>
         Err(InputError::Memory) => return Err(Stop::Memory),
         Err(InputError::ReadFault) => return Err(Stop::ReadFault),
     };
-    if text.len() > MOST_INPUT {
+    if is_too_long(text.len()) {
         return Err(Stop::TooLong);
     }
-    match chv_scene::read(alloc, text.as_slice()) {
+    or_stop(chv_scene::read(alloc, text.as_slice()))
+}
+
+// Whether an input of so many bytes is too long.
+fn is_too_long(count: usize) -> bool
+    ensures long { result ≡ true → 16777216 < count }
+    ensures short { result ≡ false → count ≤ 16777216 }
+{
+    count > MOST_INPUT
+}
+
+// What was read, or why nothing is played.
+fn or_stop<T: Drop>(read: Result<Result<T, SceneFault>, AllocError>) -> Result<T, Stop>
+    ensures { MatchResult read (λ answer. MatchResult answer (λ scene. result ≡ Ok scene) (λ fault. result ≡ Err (Stop.Scene fault)))
+        (λ _. result ≡ Err Stop.Memory) }
+{
+    match read {
         Ok(Ok(scene)) => Ok(scene),
         Ok(Err(fault)) => Err(Stop::Scene(fault)),
         Err(_) => Err(Stop::Memory),

@@ -1,5 +1,4 @@
-use Rattle.std.proofs.Common.{string_bytes, ap, ◌∙◌}
-use Rattle.chv_defs.specs.TraceText.{book_text}
+use Rattle.std.proofs.Common.{string_bytes}
 use Rattle.chv_top.proofs.Texts.{bank_same, printed_same}
 use Rattle.chv_top.proofs.lines.book.Goals as goal
 

@@ -1,4 +1,4 @@
-use Rattle.std.proofs.Common.{◌≡◌, ◌≤◌, ◌∙◌, ℕ, List, ap, refl, subst, sym}
+use Rattle.std.proofs.Common.{◌≡◌, ◌∙◌, List, ap, refl, subst}
 use Rattle.chv_defs.specs.ScenarioText.{Sessions}
 use Rattle.chv_defs.specs.Schedule.{schedule}
 use Rattle.chv_defs.specs.declared.scene.OnShelf.{OnShelf}
