@@ -9,9 +9,8 @@ use Rattle.chv_defs.specs.declared.control.ControlReply.{ControlReply}
 use Rattle.chv_defs.specs.declared.control.ControlEntry.{ControlEntry}
 use Rattle.chv_defs.specs.ApiStep.{reply_to}
 use Rattle.chv_defs.specs.ControlStep.{MayCall}
-use Rattle.chv_defs.specs.Desks.{Answer, MayAsk, can_have, is_held, is_session_call}
+use Rattle.chv_defs.specs.Desks.{Answer, MayAsk, is_held, is_session_call}
 use Rattle.chv_defs.specs.LegalControl.{answers_by}
-use Rattle.chv_control.specs.declared.inner.Inner.{Inner}
 use Rattle.chv_control.specs.declared.inner.Inner.TheVariants as inner
 use Rattle.chv_control.specs.Control.{Controlled, answer_to, entered, unless_full}
 use Rattle.chv_play.specs.declared.desk.PlayDesk.{PlayDesk}

@@ -1,6 +1,9 @@
-use Rattle.std.proofs.Common.{arith, sym}
+use Rattle.std.proofs.Common.{arith, rules, sym}
 use Rattle.chv_play.proofs.PlayedLemmas.{still_going, over_more}
 use Rattle.chv_play.proofs.round.are_over.Goals as goal
+
+pub returns-then-not-seat-clause-over : goal.returns-then-not-seat-clause-over
+returns-then-not-seat-clause-over c = search rules
 
 pub returns-then-not-seat-clause-going : goal.returns-then-not-seat-clause-going
 returns-then-not-seat-clause-going c _ =

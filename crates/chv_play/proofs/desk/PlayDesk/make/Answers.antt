@@ -1,4 +1,4 @@
-use Rattle.chv_play.proofs.AskLemmas.{is_entered, no_room}
+use Rattle.chv_play.proofs.AskLemmas.{is_entered}
 use Rattle.chv_play.proofs.desk.PlayDesk.make.Goals as goal
 
 pub returns-in-Ok : goal.returns-in-Ok
