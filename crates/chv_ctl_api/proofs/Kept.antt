@@ -1,5 +1,5 @@
 -- What a call leaves is well formed.
-use Rattle.std.proofs.Common.{◌≡◌, ◌≤◌, ◌<◌, ◌+◌, ◌*◌, ◌^◌, ◌↔◌, ℕ, Bool, true, false, List, [], ◌∷◌, ◌++◌, length, if◌then◌else◌, nat_lt, ◌==◌, None, Some, Option, refl, subst, arith, filter}
+use Rattle.std.proofs.Common.{◌≡◌, ◌≤◌, ◌<◌, ◌+◌, ◌*◌, ◌^◌, ◌↔◌, ℕ, Bool, true, false, List, [], ◌∷◌, ◌++◌, length, if◌then◌else◌, nat_lt, ◌==◌, None, Some, Option, refl, subst, arith}
 use Rattle.std.specs.Prelude.{sum_by, not, is_some, unwrap_or, ◌||◌}
 use Rattle.std.specs.List.{list_any}
 use Rattle.std.proofs.lemmas.Bool.Decides.{nat_tests}
@@ -20,8 +20,8 @@ use Rattle.chv_defs.specs.declared.control.ControlCall.{ControlCall}
 use Rattle.chv_defs.specs.declared.control.ControlCall.TheVariants as call
 use Rattle.chv_defs.specs.declared.control.ControlReply.{ControlReply}
 use Rattle.chv_defs.specs.declared.control.ControlReply.TheVariants as reply
-use Rattle.chv_defs.specs.Machine.{AreSessionsAbove, HasChecked, IsUnpaused, IsWellFormed, RunsBare}
-use Rattle.chv_defs.specs.ApiStep.{after, device_count, has_full_slots, has_id, is_booted, is_uncreated, names_of, now_of, refusal_of, reply_to, rules_of, with_new_disk, with_number, without_disk}
+use Rattle.chv_defs.specs.Machine.{AreSessionsAbove, HasChecked, IsWellFormed, RunsBare}
+use Rattle.chv_defs.specs.ApiStep.{after, has_full_slots, has_id, is_booted, is_uncreated, names_of, now_of, refusal_of, reply_to, rules_of, with_new_disk, with_number, without_disk}
 use Rattle.chv_defs.specs.ControlStep.{MayCall}
 use Rattle.chv_defs.specs.ConfigRules.{IsChecked, checked_of, config_rules, first_broken, further_disk_rules, has_zones, own_zone, zones_in_effect, verdict}
 use Rattle.chv_defs.specs.DefaultConfig.{default_config}

@@ -1,6 +1,8 @@
 -- What an answer of the rules says of them.
 use Rattle.std.proofs.Common.{◌≡◌, Bool, true, false, List, [], ◌∷◌, ◌++◌, Option, None, Some, Result, Ok, Err, if◌then◌else◌, refl, sym, subst, ap}
-use Rattle.std.specs.Prelude.{is_some, MatchResult, OnOk}
+use Rattle.std.specs.Prelude.{OnOk}
+use Rattle.std.specs.Option.{option_or}
+use Rattle.std.specs.Result.{result_err}
 use Rattle.chv_defs.specs.declared.machine.Machine.{Machine}
 use Rattle.chv_defs.specs.declared.config.Checked.{Checked}
 use Rattle.chv_defs.specs.declared.config.VmConfig.{VmConfig}
@@ -9,7 +11,6 @@ use Rattle.chv_defs.specs.declared.scene.OnShelf.{OnShelf}
 use Rattle.chv_defs.specs.declared.rule.Rule.{Rule}
 use Rattle.chv_defs.specs.declared.rule.Rule.TheVariants.{NotBuilt, SlotsFull}
 use Rattle.chv_defs.specs.declared.control.ControlCall.TheVariants as call
-use Rattle.chv_defs.specs.declared.control.ControlReply.{ControlReply}
 use Rattle.chv_defs.specs.declared.control.ControlReply.TheVariants as reply
 use Rattle.chv_defs.specs.ConfigRules.{first_broken, further_disk_rules, unless_refused, verdict}
 use Rattle.chv_defs.specs.ApiStep.{has_full_slots, is_booted, names_of, refusal_of, refused_or, reply_to}
@@ -75,22 +76,15 @@ reply_to-add shelf m now disk (Some rule) there e =
     let P : Option Checked → Type 0 = λ c. reply_to shelf (record m { config = c }) (call.AddDisk disk) ≡ reply.Ruled rule in
     subst P (sym there) (ap (λ f. refused_or f reply.Done) (first_broken-found (further_disk_rules (names_of shelf) now disk) ((has_full_slots now, SlotsFull) ∷ (is_booted m.life, NotBuilt) ∷ []) rule e))
 
--- the answer to a Create, by what the check came to
-pub answer-checked : {T : Type 0} (found : Option Rule) (value : T) (checked : Result T Rule) (answer : ControlReply) → checked ≡ unless_refused found value → MatchResult checked (λ _. answer ≡ reply.Done) (λ rule. answer ≡ reply.Ruled rule) → answer ≡ refused_or found reply.Done
-answer-checked None value checked answer is met = subst (λ c. MatchResult c (λ _. answer ≡ reply.Done) (λ rule. answer ≡ reply.Ruled rule)) is met
-answer-checked (Some rule) value checked answer is met = subst (λ c. MatchResult c (λ _. answer ≡ reply.Done) (λ rule. answer ≡ reply.Ruled rule)) is met
+-- the rule by which a check refuses
+pub err-unless_refused : {T : Type 0} (found : Option Rule) (value : T) → result_err (unless_refused found value) ≡ found
+err-unless_refused None value = refl
+err-unless_refused (Some rule) value = refl
 
--- the answer to an AddDisk, by what the check, the slots and the machine's life came to
-pub answer-named : {T : Type 0} (found : Option Rule) (slots life : Bool) (value : T) (named : Result T Rule) (full booted : Bool) (answer : ControlReply) → named ≡ unless_refused found value → full ≡ slots → booted ≡ life → MatchResult named (λ _. answer ≡ (if full then reply.Ruled SlotsFull else (if booted then reply.Ruled NotBuilt else reply.Done))) (λ rule. answer ≡ reply.Ruled rule) → answer ≡ refused_or (slots_full found slots life) reply.Done
-answer-named None true life value named full booted answer is same so met = cc (subst (λ c. MatchResult c (λ _. answer ≡ (if full then reply.Ruled SlotsFull else (if booted then reply.Ruled NotBuilt else reply.Done))) (λ rule. answer ≡ reply.Ruled rule)) is met, same)
-answer-named None false true value named full booted answer is same so met = cc (subst (λ c. MatchResult c (λ _. answer ≡ (if full then reply.Ruled SlotsFull else (if booted then reply.Ruled NotBuilt else reply.Done))) (λ rule. answer ≡ reply.Ruled rule)) is met, same, so)
-answer-named None false false value named full booted answer is same so met = cc (subst (λ c. MatchResult c (λ _. answer ≡ (if full then reply.Ruled SlotsFull else (if booted then reply.Ruled NotBuilt else reply.Done))) (λ rule. answer ≡ reply.Ruled rule)) is met, same, so)
-answer-named (Some rule) slots life value named full booted answer is same so met = subst (λ c. MatchResult c (λ _. answer ≡ (if full then reply.Ruled SlotsFull else (if booted then reply.Ruled NotBuilt else reply.Done))) (λ rule. answer ≡ reply.Ruled rule)) is met
-
--- there is no value where there is not some
-pub none-from_not_some : {T : Type 0} (c : Option T) → false ≡ is_some c → c ≡ None
-none-from_not_some None e = refl
-none-from_not_some (Some x) e = cc
+-- the rule by which a disk is not added: one on the disk, or else one on its place
+pub or-slots_full : (found : Option Rule) (full booted : Bool) → option_or found (slots_full None full booted) ≡ slots_full found full booted
+or-slots_full None full booted = refl
+or-slots_full (Some rule) full booted = refl
 
 -- where a value is answered, it is the one that the rules let through
 pub value-from_ok : {T : Type 0} (found : Option Rule) (value x : T) → unless_refused found value ≡ Ok x → x ≡ value

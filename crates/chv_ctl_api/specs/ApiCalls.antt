@@ -1,5 +1,5 @@
 -- The calls that this crate answers, and the answer of a call that is refused wherever there is a machine.
-use Rattle.std.specs.Prelude.{◌≡◌, true, if◌then◌else◌}
+use Rattle.std.specs.Prelude.{◌≡◌, Bool, true, false, if◌then◌else◌}
 use Rattle.chv_defs.specs.declared.machine.Machine.{Machine}
 use Rattle.chv_defs.specs.declared.rule.Rule.{Rule}
 use Rattle.chv_defs.specs.declared.rule.Rule.TheVariants.{NotCreated}
@@ -14,6 +14,11 @@ use Rattle.chv_defs.specs.Desks.{is_session_call}
 abbrev pub IsApiCall : ControlCall → Type 0
 IsApiCall call.Stop = Unit {0}
 IsApiCall c = is_session_call c ≡ true
+
+-- whether an answer is Done
+abbrev pub is_done : ControlReply → Bool
+is_done reply.Done = true
+is_done _ = false
 
 -- refused: there is no machine, or else this rule is broken
 abbrev pub refused_by : Machine → Rule → ControlReply

@@ -1,11 +1,12 @@
 // A machine is created, and deleted.
-ghost use Rattle.std.specs.Prelude.{◌≡◌, None, Some, IfOk, OnOk, OnErr, MatchResult};
+ghost use Rattle.std.specs.Prelude.{◌≡◌, None, Some, IfOk, OnOk, OnErr};
 ghost use Rattle.chv_defs.specs.declared.machine.Life.TheVariants as life;
 ghost use Rattle.chv_defs.specs.declared.control.ControlCall.TheVariants.{Create};
-ghost use Rattle.chv_defs.specs.declared.control.ControlReply.TheVariants.{Ruled, Done};
-ghost use Rattle.chv_defs.specs.ApiStep.{names_of, reply_to};
+ghost use Rattle.chv_defs.specs.declared.control.ControlReply.TheVariants.{Done};
+ghost use Rattle.chv_defs.specs.ApiStep.{names_of, refused_or, reply_to};
 ghost use Rattle.chv_defs.specs.ConfigRules.{checked_of, verdict};
 
+use crate::life::done_unless;
 use crate::shelf::names_of;
 use chv_config::check;
 use chv_defs::{ControlReply, Life, Machine, OnShelf, Row, Rule, VmConfig};
@@ -20,22 +21,22 @@ pub fn answer_create(
 ) -> Result<ControlReply, AllocError>
     ensures { IfOk result (λ reply. reply ≡ reply_to shelf.now machine.now (Create config.now)) }
 {
-    if machine.config.is_some() {
-        return Ok(ControlReply::Ruled(Rule::AlreadyCreated));
+    match &machine.config {
+        Some(_) => Ok(ControlReply::Ruled(Rule::AlreadyCreated)),
+        None => answer_config(alloc, shelf, config),
     }
-    let names = names_of(alloc, shelf)?;
-    let checked = check(alloc, config, &names)?;
-    Ok(answer_checked(checked))
 }
 
-// The answer to a call whose argument was checked so.
-fn answer_checked<T: Drop>(checked: Result<T, Rule>) -> ControlReply
-    ensures { MatchResult checked (λ _. result ≡ Done) (λ rule. result ≡ Ruled rule) }
+// The answer to a configuration, where there is no machine.
+fn answer_config(
+    alloc: Global,
+    shelf: &Row<OnShelf>,
+    config: &VmConfig,
+) -> Result<ControlReply, AllocError>
+    ensures { IfOk result (λ reply. reply ≡ refused_or (verdict (names_of shelf.now) config.now) Done) }
 {
-    match checked {
-        Ok(_) => ControlReply::Done,
-        Err(rule) => ControlReply::Ruled(rule),
-    }
+    let names = names_of(alloc, shelf)?;
+    Ok(done_unless(check(alloc, config, &names)?.err()))
 }
 
 /// Makes a machine of a configuration that keeps the rules. An `Err` leaves the state as it was.

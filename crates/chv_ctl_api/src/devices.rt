@@ -1,12 +1,12 @@
 // Disks are added to a machine and removed from it; so far only one that is not booted has any.
-ghost use Rattle.std.specs.Prelude.{◌≡◌, ◌≢◌, [], ◌∷◌, filter, if◌then◌else◌, length, not, None, Some, IfOk, OnOk, OnErr, MatchResult};
+ghost use Rattle.std.specs.Prelude.{◌≡◌, ◌≢◌, [], ◌∷◌, filter, if◌then◌else◌, length, not, None, Some, IfOk, OnOk, OnErr};
 ghost use Rattle.std.specs.Str.{bytes_eq};
 ghost use Rattle.chv_defs.specs.declared.control.ControlCall.TheVariants.{AddDisk, Remove};
-ghost use Rattle.chv_defs.specs.declared.control.ControlReply.TheVariants.{Ruled, Done};
 ghost use Rattle.chv_defs.specs.declared.rule.Rule.TheVariants.{NotBuilt, SlotsFull};
 ghost use Rattle.chv_defs.specs.ApiStep.{has_full_slots, has_id, is_booted, names_of, now_of, refusal_of, reply_to, with_new_disk, without_disk};
 ghost use Rattle.chv_defs.specs.ConfigRules.{given_ids, grows, has_text, memory_device_id, memory_device_ids, with_disk};
 
+use crate::life::done_unless;
 use crate::shelf::names_of;
 use chv_config::check_disk;
 use chv_defs::{
@@ -31,21 +31,20 @@ pub fn answer_add_disk(
         return Ok(ControlReply::Ruled(Rule::NotCreated));
     };
     let names = names_of(alloc, shelf)?;
-    let named = check_disk(alloc, checked, disk, &names)?;
-    Ok(answer_named(named, has_full_slots(checked), is_booted(machine.life)))
+    let broken = check_disk(alloc, checked, disk, &names)?.err();
+    Ok(done_unless(broken.or(place_rule(has_full_slots(checked), is_booted(machine.life)))))
 }
 
-// The answer to an AddDisk whose disk was checked so.
-fn answer_named<T: Drop>(named: Result<T, Rule>, full: bool, booted: bool) -> ControlReply
-    ensures { MatchResult named
-        (λ _. result ≡ (if full then Ruled SlotsFull else (if booted then Ruled NotBuilt else Done)))
-        (λ rule. result ≡ Ruled rule) }
+// The rule by which no place is left for a disk: the slots are full, or else the machine is booted.
+fn place_rule(full: bool, booted: bool) -> Option<Rule>
+    ensures { result ≡ (if full then Some SlotsFull else (if booted then Some NotBuilt else None)) }
 {
-    match named {
-        Err(rule) => ControlReply::Ruled(rule),
-        Ok(_) if full => ControlReply::Ruled(Rule::SlotsFull),
-        Ok(_) if booted => ControlReply::Ruled(Rule::NotBuilt),
-        Ok(_) => ControlReply::Done,
+    if full {
+        Some(Rule::SlotsFull)
+    } else if booted {
+        Some(Rule::NotBuilt)
+    } else {
+        None
     }
 }
 

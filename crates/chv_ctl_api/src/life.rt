@@ -3,7 +3,7 @@ ghost use Rattle.std.specs.Prelude.{◌≡◌, if◌then◌else◌};
 ghost use Rattle.chv_defs.specs.declared.control.ControlReply.TheVariants.{Ruled, Done};
 ghost use Rattle.chv_defs.specs.declared.rule.Rule.TheVariants.{NotCreated};
 ghost use Rattle.chv_defs.specs.Machine.{IsWellFormed};
-ghost use Rattle.chv_defs.specs.ApiStep.{is_running, is_uncreated, reply_to};
+ghost use Rattle.chv_defs.specs.ApiStep.{is_running, is_uncreated, refused_or, reply_to};
 ghost use Rattle.chv_defs.specs.declared.control.ControlCall.TheVariants.{Begin, Boot, Restore};
 ghost use Rattle.chv_defs.specs.declared.control.Goal.TheVariants.{Pause, Shutdown};
 ghost use Rattle.chv_ctl_api.specs.ApiCalls.{refused_by};
@@ -17,6 +17,16 @@ pub fn refuse(machine: &Machine, rule: Rule) -> ControlReply
     match &machine.config {
         Some(_) => ControlReply::Ruled(rule),
         None => ControlReply::Ruled(Rule::NotCreated),
+    }
+}
+
+/// Done, unless this rule is broken.
+pub fn done_unless(broken: Option<Rule>) -> ControlReply
+    ensures { result ≡ refused_or broken Done }
+{
+    match broken {
+        None => ControlReply::Done,
+        Some(rule) => ControlReply::Ruled(rule),
     }
 }
 

@@ -1,11 +1,12 @@
 // One step of the API.
 ghost use Rattle.std.specs.Prelude.{◌≡◌, true, IsOk, IfOk, OnOk, OnErr};
 ghost use Rattle.chv_defs.specs.declared.control.ControlCall.TheVariants.{Stop};
+ghost use Rattle.chv_defs.specs.declared.control.ControlReply.TheVariants.{Done};
 ghost use Rattle.chv_defs.specs.declared.machine.Life.TheVariants as life;
 ghost use Rattle.chv_defs.specs.Machine.{IsWellFormed};
 ghost use Rattle.chv_defs.specs.ApiStep.{after, reply_to};
 ghost use Rattle.chv_defs.specs.ControlStep.{MayCall};
-ghost use Rattle.chv_ctl_api.specs.ApiCalls.{IsApiCall};
+ghost use Rattle.chv_ctl_api.specs.ApiCalls.{IsApiCall, is_done};
 
 use crate::creation::{answer_create, create, delete};
 use crate::devices::{add_disk, answer_add_disk, answer_remove, remove_disk};
@@ -62,14 +63,40 @@ pub fn api_leave(
     ensures err { OnErr result (machine.new ≡ machine.old) }
     ensures stop { call.now ≡ Stop → IsOk result }
 {
-    match (call, reply) {
-        (ControlCall::Create(config), ControlReply::Done) => create(alloc, machine, shelf, config),
-        (ControlCall::Begin(Goal::Shutdown), ControlReply::Done) => Ok(shut_down(machine)),
-        (ControlCall::Begin(Goal::Delete), ControlReply::Done) => Ok(delete(machine)),
-        (ControlCall::AddDisk(disk), ControlReply::Done) => add_disk(alloc, machine, shelf, disk),
-        (ControlCall::Remove(id), ControlReply::Done) => Ok(remove_disk(alloc, machine, id)),
-        (ControlCall::Bye, ControlReply::Done) => end_session(&mut machine.ended, caller),
-        (ControlCall::Stop, ControlReply::Done) => Ok(stop(machine)),
+    if is_done(reply) {
+        leave_done(alloc, machine, caller, shelf, call)
+    } else {
+        Ok(())
+    }
+}
+
+fn is_done(reply: &ControlReply) -> bool
+    ensures { result ≡ is_done reply.now }
+{
+    matches!(reply, ControlReply::Done)
+}
+
+// Leaves the machine as after a call that is answered Done.
+fn leave_done(
+    alloc: Global,
+    machine: &mut Machine,
+    caller: u32,
+    shelf: &Row<OnShelf>,
+    call: &ControlCall,
+) -> Result<(), AllocError>
+    requires { reply_to shelf.now machine.old call.now ≡ Done }
+    ensures ok { OnOk result (machine.new ≡ after machine.old caller call.now Done) }
+    ensures err { OnErr result (machine.new ≡ machine.old) }
+    ensures stop { call.now ≡ Stop → IsOk result }
+{
+    match call {
+        ControlCall::Create(config) => create(alloc, machine, shelf, config),
+        ControlCall::Begin(Goal::Shutdown) => Ok(shut_down(machine)),
+        ControlCall::Begin(Goal::Delete) => Ok(delete(machine)),
+        ControlCall::AddDisk(disk) => add_disk(alloc, machine, shelf, disk),
+        ControlCall::Remove(id) => Ok(remove_disk(alloc, machine, id)),
+        ControlCall::Bye => end_session(&mut machine.ended, caller),
+        ControlCall::Stop => Ok(stop(machine)),
         _ => Ok(()),
     }
 }
