@@ -1,5 +1,5 @@
 // The ids of devices: the given ones, and the default ones.
-ghost use Rattle.std.specs.Prelude.{◌≡◌, ◌++◌, IfOk, OnOk};
+ghost use Rattle.std.specs.Prelude.{◌≡◌, ◌++◌, [], ◌∷◌, IfOk, OnOk};
 ghost use Rattle.chv_defs.specs.ConfigRules.{default_id, given_ids, id_beside, ids_of, lowest_free, memory_device_id, memory_device_ids, with_id, with_ids};
 
 use crate::texts::has_text;
@@ -58,11 +58,24 @@ pub fn with_ids(
 {
     let mut named = Row::empty(alloc);
     for disk in disks {
-        let id = id_beside(alloc, ids.as_slice(), disk)?;
-        named.push(disk_with(disk, copy_of(&id)?)?)?;
-        ids.push(id)?;
+        push_named(alloc, &mut ids, &mut named, disk)?;
     }
     Ok(named)
+}
+
+// Adds a disk behind those that are named, with its id set beside devices with these ids, and its id behind theirs.
+fn push_named(
+    alloc: Global,
+    ids: &mut Vec<Text>,
+    named: &mut Row<DiskConfig>,
+    disk: &DiskConfig,
+) -> Result<(), AllocError>
+    ensures ids { OnOk result (ids.new.items ≡ ids.old.items ++ id_beside ids.old.items disk.now ∷ []) }
+    ensures named { OnOk result (named.new ≡ named.old ++ with_id ids.old.items disk.now ∷ []) }
+{
+    let id = id_beside(alloc, ids.as_slice(), disk)?;
+    ids.push(copy_of(&id)?)?;
+    named.push(disk_with(disk, id)?)
 }
 
 /// A disk with its id set beside devices with these ids.
