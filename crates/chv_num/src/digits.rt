@@ -15,7 +15,7 @@ pub(crate) fn is_decimal(byte: u8) -> bool
 pub(crate) fn is_hex(byte: u8) -> bool
     ensures { result ≡ is_hex_digit byte }
 {
-    is_decimal(byte) || (97 <= byte && byte <= 102)
+    is_decimal(byte) || (byte <= 102 && byte >= 97)
 }
 
 /// The value of a digit of base 36 at most, and 36 for any other byte.
