@@ -1,12 +1,10 @@
 -- The numbers of a set, ascending.
-use Rattle.std.proofs.Common.{◌≡◌, ℕ, ◌+◌, ◌-◌, ◌<◌, ◌≤◌, Bool, true, false, List, [], ◌∷◌, ◌++◌, Option, None, Some, refl, sym, ◌∙◌, ap, subst, arith, length, get_or, take, drop, zero-add, suc, zero, inl, inr}
-use Rattle.std.specs.Prelude.{filter, find, cond, MatchOption, ◌==◌, ◌||◌, ◌&&◌, nat_le}
-use Rattle.std.specs.List.{list_any}
-use Rattle.std.proofs.lemmas.List.{take_more, length-append}
-use Rattle.std.proofs.lemmas.Bool.{cases_order, cases_lt}
+use Rattle.std.proofs.Common.{◌≡◌, ℕ, ◌+◌, ◌-◌, ◌<◌, ◌≤◌, Bool, true, false, List, [], ◌∷◌, ◌++◌, Option, None, Some, refl, sym, ◌∙◌, ap, subst, arith, length, suc, inl, inr}
+use Rattle.std.specs.Prelude.{filter, find, cond, MatchOption}
+use Rattle.std.proofs.lemmas.Bool.{cases_order}
 use Rattle.std.proofs.lemmas.Bool.Decides.{nat_tests}
 use Rattle.chv_defs.specs.declared.bank.Span.{Span}
-use Rattle.chv_defs.specs.BlockSets.{Blocks, has, members_from, members, count_of, first_within, is_within}
+use Rattle.chv_defs.specs.BlockSets.{has, members_from, first_within, is_within}
 
 -- as many as there are true values
 pub count_of-from : (k : ℕ) (bs : List Bool) → length (members_from k bs) ≡ length (filter (λ b. b) bs)

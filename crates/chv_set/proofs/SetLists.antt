@@ -1,13 +1,12 @@
 -- Sets as lists of truth values.
-use Rattle.std.proofs.Common.{◌≡◌, ℕ, ◌+◌, ◌-◌, ◌<◌, ◌≤◌, Bool, true, false, List, [], ◌∷◌, ◌++◌, refl, sym, ◌∙◌, ap, arith, length, get_or, replicate, zero-add, inl, inr}
-use Rattle.std.specs.Prelude.{map, not, ◌||◌, ◌&&◌, nat_le, nat_lt}
-use Rattle.std.specs.List.{range_with_len}
+use Rattle.std.proofs.Common.{◌≡◌, ℕ, ◌+◌, ◌<◌, ◌≤◌, Bool, true, false, List, refl, sym, ◌∙◌, arith, length, replicate, zero-add, inl, inr}
+use Rattle.std.specs.Prelude.{not, ◌||◌, ◌&&◌}
 use Rattle.std.proofs.lemmas.List.{ext_get_or, get_or-replicate, length-replicate}
 use Rattle.std.proofs.lemmas.List.FromFn.{get_or-map-range_with_len, length-map-range_with_len}
 use Rattle.std.proofs.lemmas.Bool.{cases_lt}
 use Rattle.std.proofs.lemmas.Bool.Decides.{nat_tests}
 use Rattle.chv_defs.specs.declared.bank.Span.{Span}
-use Rattle.chv_defs.specs.BlockSets.{Blocks, has, numbers_where, is_within, no_blocks, with_span, without_span}
+use Rattle.chv_defs.specs.BlockSets.{has, numbers_where, is_within, no_blocks, with_span, without_span}
 
 -- a set is given by which numbers it has
 pub numbers_where-is : (size : ℕ) (p : ℕ → Bool) (set : List Bool) → length set ≡ size → ((k : ℕ) → k < size → has set k ≡ p k) → set ≡ numbers_where size p

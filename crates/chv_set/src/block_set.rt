@@ -41,12 +41,7 @@ impl BlockSet {
         requires { span.first + span.count ≤ length self.old }
         ensures { self.new ≡ with_span self.old span }
     {
-        put_all(
-            &mut self.blocks,
-            span.first as usize,
-            span.count as usize,
-            true,
-        );
+        put_all(&mut self.blocks, span, true);
     }
 
     /// Takes the numbers of a span out.
@@ -54,12 +49,7 @@ impl BlockSet {
         requires { span.first + span.count ≤ length self.old }
         ensures { self.new ≡ without_span self.old span }
     {
-        put_all(
-            &mut self.blocks,
-            span.first as usize,
-            span.count as usize,
-            false,
-        );
+        put_all(&mut self.blocks, span, false);
     }
 
     /// Whether a number is in the set.
@@ -96,15 +86,16 @@ impl BlockSet {
     }
 }
 
-// Writes one truth value to `count` places from `first` on.
-fn put_all(blocks: &mut Vec<bool>, first: usize, count: usize, value: bool)
-    requires { first + count ≤ length blocks.old.items }
+// Writes one truth value to the places of a span.
+fn put_all(blocks: &mut Vec<bool>, span: Span, value: bool)
+    requires { span.first + span.count ≤ length blocks.old.items }
     ensures len { length blocks.new.items ≡ length blocks.old.items }
-    ensures inside { (k : ℕ) → first ≤ k → k < first + count → has blocks.new.items k ≡ value }
-    ensures below { (k : ℕ) → k < first → has blocks.new.items k ≡ has blocks.old.items k }
-    ensures above { (k : ℕ) → first + count ≤ k → has blocks.new.items k ≡ has blocks.old.items k }
+    ensures inside { (k : ℕ) → span.first ≤ k → k < span.first + span.count → has blocks.new.items k ≡ value }
+    ensures below { (k : ℕ) → k < span.first → has blocks.new.items k ≡ has blocks.old.items k }
+    ensures above { (k : ℕ) → span.first + span.count ≤ k → has blocks.new.items k ≡ has blocks.old.items k }
 {
-    for block in first..first + count {
+    let first = span.first as usize;
+    for block in first..first + span.count as usize {
         blocks[block] = value;
     }
 }

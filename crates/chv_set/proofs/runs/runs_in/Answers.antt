@@ -1,4 +1,3 @@
-use Rattle.std.proofs.Common.{arith}
 use Rattle.chv_set.proofs.RunLists.{runs-step-in, runs-step-out}
 use Rattle.chv_set.proofs.runs.runs_in.Goals as goal
 use Rattle.chv_set.proofs.runs.runs_in.Goals.{then-blocks-block+in_ok-push_block, else-blocks-block}

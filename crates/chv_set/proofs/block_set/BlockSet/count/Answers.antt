@@ -1,5 +1,4 @@
-use Rattle.std.proofs.Common.{sym, ◌∙◌, ap, arith}
-use Rattle.chv_defs.specs.BlockSets.{count_of}
+use Rattle.std.proofs.Common.{arith}
 use Rattle.chv_set.proofs.Members.{count_of-from, length-filter-le}
 use Rattle.chv_set.proofs.block_set.BlockSet.count.Goals as goal
 
