@@ -37,7 +37,8 @@ pub fn ram_place(run: Run, addr: u64, len: u64) -> Place
 {
     let from = addr - run.addr;
     let offset = from % BLOCK_BYTES;
-    if len <= BLOCK_BYTES - offset {
+    let room = BLOCK_BYTES - offset;
+    if len <= room {
         Place::Ram {
             zone: run.zone,
             block: run.first + (from / BLOCK_BYTES) as u32,
