@@ -67,7 +67,10 @@ fn make_room_in(
 fn is_made(answer: &Result<Result<(), Refusal>, AllocError>) -> bool
     ensures { result ≡ is_made answer.now }
 {
-    matches!(answer, Ok(Ok(())))
+    match answer {
+        Ok(made) => made.is_ok(),
+        Err(_) => false,
+    }
 }
 
 // Gives further entries back again in each of these banks, and every page.
