@@ -16,3 +16,6 @@ pub returns-then-is_ok-clause-answer : goal.returns-then-is_ok-clause-answer
 returns-then-is_ok-clause-answer g c =
     room-answer c.args.machine.now c.zones_in_effect-configs.result.now (g.Z.Banked.known c.args.zones.now) (g.Z.Banked.known c.make_room.new.zones) c.in_ok-room.room
     c.zones_in_effect-configs.ensures.zones c.in_ok-room.ensures.room
+
+pub shape_zones-requires-clause-limits : goal.shape_zones-requires-clause-limits
+shape_zones-requires-clause-limits g c = c.zones_in_effect-configs.ensures.limits
