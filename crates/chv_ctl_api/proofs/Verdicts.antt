@@ -1,6 +1,6 @@
 -- What an answer of the rules says of them.
 use Rattle.std.proofs.Common.{◌≡◌, Bool, true, false, List, [], ◌∷◌, ◌++◌, Option, None, Some, Result, Ok, Err, if◌then◌else◌, refl, sym, subst, ap}
-use Rattle.std.specs.Prelude.{OnOk}
+use Rattle.std.specs.Prelude.{IfOk, OnOk}
 use Rattle.std.specs.Option.{option_or}
 use Rattle.std.specs.Result.{result_err}
 use Rattle.chv_defs.specs.declared.machine.Machine.{Machine}
@@ -101,3 +101,8 @@ none-from_added shelf m now disk there e =
 pub OnOk-map : {T E P Q : Type 0} (r : Result T E) → (P → Q) → OnOk r P → OnOk r Q
 OnOk-map (Ok x) f p = f p
 OnOk-map (Err e) f p = tt
+
+-- what follows from a fact of the value is a fact of it
+pub IfOk-map : {T E : Type 0} {P Q : T → Type 0} (r : Result T E) → ((x : T) → P x → Q x) → IfOk r P → IfOk r Q
+IfOk-map (Ok x) f p = f x p
+IfOk-map (Err e) f p = tt

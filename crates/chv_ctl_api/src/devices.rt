@@ -1,8 +1,9 @@
 // Disks are added to a machine and removed from it; so far only one that is not booted has any.
-ghost use Rattle.std.specs.Prelude.{◌≡◌, ◌≢◌, [], ◌∷◌, filter, if◌then◌else◌, length, not, None, Some, IfOk, OnOk, OnErr};
+ghost use Rattle.std.specs.Prelude.{◌≡◌, ◌≢◌, [], ◌∷◌, filter, if◌then◌else◌, length, not, List, None, Some, IfOk, OnOk, OnErr};
 ghost use Rattle.std.specs.Str.{bytes_eq};
 ghost use Rattle.chv_defs.specs.declared.control.ControlCall.TheVariants.{AddDisk, Remove};
 ghost use Rattle.chv_defs.specs.declared.rule.Rule.TheVariants.{NotBuilt, SlotsFull};
+ghost use Rattle.chv_defs.specs.declared.scene.OnShelf.{OnShelf};
 ghost use Rattle.chv_defs.specs.ApiStep.{has_full_slots, has_id, is_booted, names_of, now_of, refusal_of, reply_to, with_new_disk, without_disk};
 ghost use Rattle.chv_defs.specs.ConfigRules.{given_ids, grows, has_text, memory_device_id, memory_device_ids, with_disk};
 
@@ -70,8 +71,8 @@ fn count_growing(zones: &[ZoneConfig]) -> usize
 }
 
 /// The answer to a Remove.
-pub fn answer_remove(machine: &Machine, shelf: &Row<OnShelf>, id: &Text) -> ControlReply
-    ensures { result ≡ reply_to shelf.now machine.now (Remove id.now) }
+pub fn answer_remove(machine: &Machine, id: &Text) -> ControlReply
+    ensures { (shelf : List OnShelf) → result ≡ reply_to shelf machine.now (Remove id.now) }
 {
     let Some(checked) = &machine.config else {
         return ControlReply::Ruled(Rule::NotCreated);

@@ -1,14 +1,15 @@
 // Calls on a machine's life.
-ghost use Rattle.std.specs.Prelude.{◌≡◌, if◌then◌else◌};
+ghost use Rattle.std.specs.Prelude.{◌≡◌, ℕ, List, if◌then◌else◌};
 ghost use Rattle.chv_defs.specs.declared.control.ControlReply.TheVariants.{Ruled, Done};
 ghost use Rattle.chv_defs.specs.declared.rule.Rule.TheVariants.{NotCreated};
+ghost use Rattle.chv_defs.specs.declared.scene.OnShelf.{OnShelf};
 ghost use Rattle.chv_defs.specs.Machine.{IsWellFormed};
 ghost use Rattle.chv_defs.specs.ApiStep.{is_running, is_uncreated, refused_or, reply_to};
 ghost use Rattle.chv_defs.specs.declared.control.ControlCall.TheVariants.{Begin, Boot, Restore};
 ghost use Rattle.chv_defs.specs.declared.control.Goal.TheVariants.{Pause, Shutdown};
 ghost use Rattle.chv_ctl_api.specs.ApiCalls.{refused_by};
 
-use chv_defs::{ControlReply, Goal, Life, Machine, Name, OnShelf, Row, Rule};
+use chv_defs::{ControlReply, Goal, Life, Machine, Rule};
 
 /// A refusal: there is no machine, or else this rule is broken.
 pub fn refuse(machine: &Machine, rule: Rule) -> ControlReply
@@ -38,9 +39,9 @@ pub fn is_running(life: Life) -> bool
 }
 
 /// The answer to a Boot.
-pub fn answer_boot(machine: &Machine, shelf: &Row<OnShelf>) -> ControlReply
+pub fn answer_boot(machine: &Machine) -> ControlReply
     requires { IsWellFormed machine.now }
-    ensures { result ≡ reply_to shelf.now machine.now Boot }
+    ensures { (shelf : List OnShelf) → result ≡ reply_to shelf machine.now Boot }
 {
     if is_running(machine.life) {
         return refuse(machine, Rule::AlreadyBooted);
@@ -50,20 +51,20 @@ pub fn answer_boot(machine: &Machine, shelf: &Row<OnShelf>) -> ControlReply
 
 /// The answer to a Begin. No context is out so far, so that a shutdown or a delete reaches its goal at once; a pause is not
 /// built.
-pub fn answer_begin(machine: &Machine, shelf: &Row<OnShelf>, goal: Goal) -> ControlReply
+pub fn answer_begin(machine: &Machine, goal: Goal) -> ControlReply
     requires { IsWellFormed machine.now }
-    ensures { result ≡ reply_to shelf.now machine.now (Begin goal) }
+    ensures { (shelf : List OnShelf) → result ≡ reply_to shelf machine.now (Begin goal) }
 {
     match goal {
-        Goal::Pause => answer_pause(machine, shelf),
-        Goal::Shutdown => answer_shutdown(machine, shelf),
+        Goal::Pause => answer_pause(machine),
+        Goal::Shutdown => answer_shutdown(machine),
         Goal::Delete => answer_delete(machine),
     }
 }
 
-fn answer_pause(machine: &Machine, shelf: &Row<OnShelf>) -> ControlReply
+fn answer_pause(machine: &Machine) -> ControlReply
     requires { IsWellFormed machine.now }
-    ensures { result ≡ reply_to shelf.now machine.now (Begin Pause) }
+    ensures { (shelf : List OnShelf) → result ≡ reply_to shelf machine.now (Begin Pause) }
 {
     if is_running(machine.life) {
         return refuse(machine, Rule::NotBuilt);
@@ -71,9 +72,9 @@ fn answer_pause(machine: &Machine, shelf: &Row<OnShelf>) -> ControlReply
     refuse(machine, Rule::NotRunning)
 }
 
-fn answer_shutdown(machine: &Machine, shelf: &Row<OnShelf>) -> ControlReply
+fn answer_shutdown(machine: &Machine) -> ControlReply
     requires { IsWellFormed machine.now }
-    ensures { result ≡ reply_to shelf.now machine.now (Begin Shutdown) }
+    ensures { (shelf : List OnShelf) → result ≡ reply_to shelf machine.now (Begin Shutdown) }
 {
     if is_running(machine.life) {
         return ControlReply::Done;
@@ -91,8 +92,8 @@ fn answer_delete(machine: &Machine) -> ControlReply
 }
 
 /// The answer to a Restore.
-pub fn answer_restore(machine: &Machine, shelf: &Row<OnShelf>, name: &Name) -> ControlReply
-    ensures { result ≡ reply_to shelf.now machine.now (Restore name.now) }
+pub fn answer_restore(machine: &Machine) -> ControlReply
+    ensures { (shelf : List OnShelf) (name : List ℕ) → result ≡ reply_to shelf machine.now (Restore name) }
 {
     if machine.config.is_some() {
         return ControlReply::Ruled(Rule::AlreadyCreated);

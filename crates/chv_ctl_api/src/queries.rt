@@ -1,27 +1,24 @@
 // What `vm.info` and `vm.counters` show.
-ghost use Rattle.std.specs.Prelude.{◌≡◌, ◌≢◌, ◌<◌, ◌≤◌, ◌^◌, None, IfOk, map, sum_by};
+ghost use Rattle.std.specs.Prelude.{◌≡◌, ◌≢◌, ◌<◌, ◌≤◌, ◌^◌, List, None, IfOk, map, sum_by};
 ghost use Rattle.std.specs.List.{range_with_len};
 ghost use Rattle.chv_defs.specs.Machine.{IsWellFormed};
 ghost use Rattle.chv_defs.specs.Shown.{present, shown, shown_as, shown_state, shown_zone};
 ghost use Rattle.chv_defs.specs.ApiStep.{reply_to};
 ghost use Rattle.chv_defs.specs.declared.config.ZoneConfig.{ZoneConfig};
 ghost use Rattle.chv_defs.specs.declared.control.ControlCall.TheVariants as call;
+ghost use Rattle.chv_defs.specs.declared.scene.OnShelf.{OnShelf};
 
 use crate::life::{is_running, refuse};
 use chv_defs::{
-    Checked, ControlReply, Info, Life, Machine, OnShelf, Row, Rule, ShownState, ZoneConfig,
-    ZoneInfo, copy_of,
+    Checked, ControlReply, Info, Life, Machine, Row, Rule, ShownState, ZoneConfig, ZoneInfo,
+    copy_of,
 };
 use std::alloc::{AllocError, Global};
 
 /// The answer to Info.
-pub fn answer_info(
-    alloc: Global,
-    machine: &Machine,
-    shelf: &Row<OnShelf>,
-) -> Result<ControlReply, AllocError>
+pub fn answer_info(alloc: Global, machine: &Machine) -> Result<ControlReply, AllocError>
     requires { IsWellFormed machine.now }
-    ensures { IfOk result (λ reply. reply ≡ reply_to shelf.now machine.now call.Info) }
+    ensures { IfOk result (λ reply. (shelf : List OnShelf) → reply ≡ reply_to shelf machine.now call.Info) }
 {
     if machine.config.is_none() {
         return Ok(ControlReply::Ruled(Rule::NotCreated));
@@ -30,9 +27,9 @@ pub fn answer_info(
 }
 
 /// The answer to Counters. No disk is placed in a machine that runs, so that none is counted.
-pub fn answer_counters(alloc: Global, machine: &Machine, shelf: &Row<OnShelf>) -> ControlReply
+pub fn answer_counters(alloc: Global, machine: &Machine) -> ControlReply
     requires { IsWellFormed machine.now }
-    ensures { result ≡ reply_to shelf.now machine.now call.Counters }
+    ensures { (shelf : List OnShelf) → result ≡ reply_to shelf machine.now call.Counters }
 {
     if is_running(machine.life) {
         return ControlReply::Counted(Row::empty(alloc));

@@ -1,29 +1,25 @@
 // The resizing of a machine: refused by its rules, and else, where it runs, as not built.
-ghost use Rattle.std.specs.Prelude.{◌≡◌, ◌∷◌, [], ◌&&◌, true, not, Some, is_some, find};
+ghost use Rattle.std.specs.Prelude.{◌≡◌, ◌∷◌, [], ◌&&◌, true, not, List, Some, is_some, find};
 ghost use Rattle.std.specs.Option.{option_copied};
 ghost use Rattle.std.specs.Str.{bytes_eq};
 ghost use Rattle.chv_defs.specs.declared.config.ZoneConfig.{ZoneConfig};
 ghost use Rattle.chv_defs.specs.declared.control.ControlCall.TheVariants.{Resize, ResizeZone};
 ghost use Rattle.chv_defs.specs.declared.rule.Rule.TheVariants.{ByZone, NotBuilt, RamRange, VcpuCount, ZoneUnknown};
+ghost use Rattle.chv_defs.specs.declared.scene.OnShelf.{OnShelf};
 ghost use Rattle.chv_defs.specs.Machine.{IsWellFormed};
 ghost use Rattle.chv_defs.specs.ApiStep.{is_bad_vcpu_count, is_given_and, is_out_of_range, is_zone_out_of_range, reply_to, zone_named};
 ghost use Rattle.chv_defs.specs.ConfigRules.{first_broken, has_zones, own_zone};
 
 use crate::life::{is_running, refuse};
-use chv_defs::{Checked, ControlReply, Machine, OnShelf, Row, Rule, Text, ZoneConfig};
+use chv_defs::{Checked, ControlReply, Machine, Rule, Text, ZoneConfig};
 
 /// Bytes of a block.
 const BLOCK_BYTES: u64 = 2_097_152;
 
 /// The answer to a Resize; `ram` is in bytes.
-pub fn answer_resize(
-    machine: &Machine,
-    shelf: &Row<OnShelf>,
-    vcpus: Option<u64>,
-    ram: Option<u64>,
-) -> ControlReply
+pub fn answer_resize(machine: &Machine, vcpus: Option<u64>, ram: Option<u64>) -> ControlReply
     requires { IsWellFormed machine.now }
-    ensures { result ≡ reply_to shelf.now machine.now (Resize vcpus ram) }
+    ensures { (shelf : List OnShelf) → result ≡ reply_to shelf machine.now (Resize vcpus ram) }
 {
     match &machine.config {
         Some(checked) if is_running(machine.life) => {
@@ -66,14 +62,9 @@ fn is_out_of_range(size: u64, hotplug: u64, ram: u64) -> bool
 }
 
 /// The answer to a ResizeZone; `ram` is in bytes.
-pub fn answer_resize_zone(
-    machine: &Machine,
-    shelf: &Row<OnShelf>,
-    id: &Text,
-    ram: u64,
-) -> ControlReply
+pub fn answer_resize_zone(machine: &Machine, id: &Text, ram: u64) -> ControlReply
     requires { IsWellFormed machine.now }
-    ensures { result ≡ reply_to shelf.now machine.now (ResizeZone id.now ram) }
+    ensures { (shelf : List OnShelf) → result ≡ reply_to shelf machine.now (ResizeZone id.now ram) }
 {
     match &machine.config {
         Some(checked) if is_running(machine.life) => {

@@ -32,18 +32,16 @@ pub fn api_reply(
 {
     match call {
         ControlCall::Ping | ControlCall::Bye | ControlCall::Stop => Ok(ControlReply::Done),
-        ControlCall::Info => answer_info(alloc, machine, shelf),
+        ControlCall::Info => answer_info(alloc, machine),
         ControlCall::Create(config) => answer_create(alloc, machine, shelf, config),
         ControlCall::AddDisk(disk) => answer_add_disk(alloc, machine, shelf, disk),
-        ControlCall::Remove(id) => Ok(answer_remove(machine, shelf, id)),
-        ControlCall::Begin(goal) => Ok(answer_begin(machine, shelf, *goal)),
-        ControlCall::Restore(name) => Ok(answer_restore(machine, shelf, name)),
-        ControlCall::Boot => Ok(answer_boot(machine, shelf)),
-        ControlCall::Counters => Ok(answer_counters(alloc, machine, shelf)),
-        ControlCall::Resize { vcpus, ram } => Ok(answer_resize(machine, shelf, *vcpus, *ram)),
-        ControlCall::ResizeZone { zone, ram } => {
-            Ok(answer_resize_zone(machine, shelf, zone, *ram))
-        }
+        ControlCall::Remove(id) => Ok(answer_remove(machine, id)),
+        ControlCall::Begin(goal) => Ok(answer_begin(machine, *goal)),
+        ControlCall::Restore(_) => Ok(answer_restore(machine)),
+        ControlCall::Boot => Ok(answer_boot(machine)),
+        ControlCall::Counters => Ok(answer_counters(alloc, machine)),
+        ControlCall::Resize { vcpus, ram } => Ok(answer_resize(machine, *vcpus, *ram)),
+        ControlCall::ResizeZone { zone, ram } => Ok(answer_resize_zone(machine, zone, *ram)),
         ControlCall::Resume | ControlCall::Snapshot(_) => Ok(refuse(machine, Rule::NotPaused)),
         _ => unreachable!(),
     }
