@@ -61,11 +61,10 @@ pub fn api_leave(
     ensures err { OnErr result (machine.new ≡ machine.old) }
     ensures stop { call.now ≡ Stop → IsOk result }
 {
-    if is_done(reply) {
-        leave_done(alloc, machine, caller, shelf, call)
-    } else {
-        Ok(())
+    if !is_done(reply) {
+        return Ok(());
     }
+    leave_done(alloc, machine, caller, shelf, call)
 }
 
 fn is_done(reply: &ControlReply) -> bool
@@ -89,12 +88,24 @@ fn leave_done(
 {
     match call {
         ControlCall::Create(config) => create(alloc, machine, shelf, config),
-        ControlCall::Begin(Goal::Shutdown) => Ok(shut_down(machine)),
-        ControlCall::Begin(Goal::Delete) => Ok(delete(machine)),
+        ControlCall::Begin(Goal::Shutdown) => {
+            shut_down(machine);
+            Ok(())
+        }
+        ControlCall::Begin(Goal::Delete) => {
+            delete(machine);
+            Ok(())
+        }
         ControlCall::AddDisk(disk) => add_disk(alloc, machine, shelf, disk),
-        ControlCall::Remove(id) => Ok(remove_disk(alloc, machine, id)),
+        ControlCall::Remove(id) => {
+            remove_disk(alloc, machine, id);
+            Ok(())
+        }
         ControlCall::Bye => end_session(&mut machine.ended, caller),
-        ControlCall::Stop => Ok(stop(machine)),
+        ControlCall::Stop => {
+            stop(machine);
+            Ok(())
+        }
         _ => Ok(()),
     }
 }
