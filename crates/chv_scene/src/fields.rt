@@ -45,23 +45,23 @@ pub(crate) fn is_word(field: &[u8], word: &str) -> bool
     field == word.as_bytes()
 }
 
-fn is_route_letter(byte: u8) -> bool
+fn is_route_byte(byte: u8) -> bool
     ensures { result ≡ is_route_byte byte }
 {
-    (b'a' <= byte && byte <= b'z') || (b'0' <= byte && byte <= b'9') || byte == b'.' || byte == b'-'
+    matches!(byte, b'a'..=b'z' | b'0'..=b'9' | b'.' | b'-')
 }
 
-fn are_route_letters(text: &[u8]) -> bool
+fn are_route_bytes(text: &[u8]) -> bool
     ensures { result ≡ list_all is_route_byte text.now }
 {
-    text.iter().all(|b| is_route_letter(*b))
+    text.iter().all(|b| is_route_byte(*b))
 }
 
 /// Whether the field is a name of a route.
 pub(crate) fn is_route_name(field: &[u8]) -> bool
     ensures { result ≡ line.is_route_name field.now }
 {
-    1 <= field.len() && field.len() <= 32 && are_route_letters(field)
+    1 <= field.len() && field.len() <= 32 && are_route_bytes(field)
 }
 
 /// Whether the field spells a number from `low` to `high`.
