@@ -61,7 +61,7 @@ fn push_request(alloc: Global, stream: &mut Vec<u8>, request: &Asked) -> Result<
             name,
             body: Some(body),
         } => push_put(alloc, stream, name.as_str().as_bytes(), body.as_slice()),
-        Asked::Raw(bytes) => Ok(stream.extend_from_slice(bytes.as_slice())?),
+        Asked::Raw(bytes) => stream.extend_from_slice(bytes.as_slice()),
     }
 }
 
