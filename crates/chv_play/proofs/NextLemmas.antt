@@ -12,7 +12,6 @@ use Rattle.chv_defs.specs.Outside.{Rose}
 use Rattle.chv_defs.specs.Requests.{IsShort}
 use Rattle.chv_defs.specs.Routes.{call_of_request}
 use Rattle.chv_defs.specs.SessionBytes.{Holds, session_limit}
-use Rattle.chv_defs.specs.Schedule.{Turn}
 use Rattle.chv_defs.specs.Schedule as schedule
 use Rattle.chv_session.specs.declared.next.Next.{Next}
 use Rattle.chv_session.specs.declared.next.Next.TheVariants as next

@@ -11,7 +11,7 @@ use Rattle.chv_defs.specs.declared.scene.OnShelf.{OnShelf}
 use Rattle.chv_defs.specs.declared.scene.Asked.{Asked}
 use Rattle.chv_defs.specs.declared.trace.SessionTrace.{SessionTrace}
 use Rattle.chv_defs.specs.declared.session.SessionEnd.{SessionEnd}
-use Rattle.chv_defs.specs.Schedule.{Turn, Visit, Stage, first_stage, after_turns, all_turns, numbered, rounds_of, round_of, visit_of, visit_from, at_start, log_of, trace_of, trace_at, trace_of_streams, stream_of, schedule, replies_to}
+use Rattle.chv_defs.specs.Schedule.{Visit, Stage, first_stage, after_turns, all_turns, numbered, rounds_of, round_of, visit_of, visit_from, at_start, log_of, trace_of, stream_of, replies_to}
 use Rattle.chv_defs.specs.Schedule.{Standing, Answers, visit_at, last_turns, with_turn, filled}
 use Rattle.chv_defs.specs.Schedule as schedule
 use Rattle.chv_defs.specs.StreamCut.{cut}
