@@ -24,8 +24,13 @@ use std::alloc::{AllocError, Global};
 /// The most bytes that an input has.
 const MOST_INPUT: usize = 16_777_216;
 
-/// One byte more: it shows that an input is longer.
-const INPUT_LIMIT: usize = 16_777_217;
+/// How many bytes are read at most: the one beyond `MOST_INPUT` shows that an input is longer.
+const INPUT_LIMIT: usize = MOST_INPUT + 1;
+
+/// The status of an input that is too long: so many bytes of it were read.
+const TOO_LONG: Status = Status::TooLong {
+    bytes: INPUT_LIMIT as u64,
+};
 
 /// Why nothing is played.
 #[derive(Clone, Copy, PartialEq, Eq)]
@@ -111,8 +116,6 @@ fn say<K: Sink>(alloc: Global, out: &mut K, stop: Stop) -> Status
         Stop::Scene(fault) => say_fault(alloc, out, fault),
     }
 }
-
-const TOO_LONG: Status = Status::TooLong { bytes: 16_777_217 };
 
 fn say_fault<K: Sink>(alloc: Global, out: &mut K, fault: SceneFault) -> Status
     ensures said { Tells (K.written out.old) (K.written out.new) (K.write_faults out.old) (K.write_faults out.new)
