@@ -22,6 +22,7 @@ pub fn write<K: Sink>(out: &mut K, text: &str, wanted: Status) -> Status
     }
 }
 
+/// The line for words that are none of the program's.
 #[tactic(auto, unfolding(chv_defs::specs::ProgramText::usage_line))]
 pub fn usage() -> &'static str
     ensures { result.now ≡ lines.usage_line }
@@ -29,6 +30,7 @@ pub fn usage() -> &'static str
     "chv: usage\n"
 }
 
+/// The line for an input that could not be read.
 #[tactic(auto, unfolding(chv_defs::specs::ProgramText::read_fault_line))]
 pub fn read_fault() -> &'static str
     ensures { result.now ≡ lines.read_fault_line }
@@ -36,6 +38,7 @@ pub fn read_fault() -> &'static str
     "chv: read fault\n"
 }
 
+/// The line for an input of more than 16,777,216 bytes.
 #[tactic(auto, unfolding(chv_defs::specs::ProgramText::too_long_line))]
 pub fn too_long() -> &'static str
     ensures { result.now ≡ lines.too_long_line }
