@@ -15,7 +15,7 @@ use chv_defs::Name;
 use chv_io::{Disk, Sink, Source};
 use std::alloc::Global;
 
-/// Plays the scenario that the input is, and writes its trace. These disks stand by, each behind its name. It waits for
+/// Plays the scenario that the input is, and writes its trace. These disks stand by, each under its name. It waits for
 /// nobody, and returns.
 pub fn play_program<S: Source, K: Sink, D: Disk + Drop>(
     alloc: Global,
@@ -57,7 +57,7 @@ pub fn play_program<S: Source, K: Sink, D: Disk + Drop>(
     play_input(alloc, input, out, disks)
 }
 
-/// Does what the words of the command line ask for, over this input and output. These disks stand by, each behind its
+/// Does what the words of the command line ask for, over this input and output. These disks stand by, each under its
 /// name; `main` hands in none.
 pub fn run_program<S: Source, K: Sink, D: Disk + Drop>(
     alloc: Global,
