@@ -2,11 +2,8 @@
 ghost use Rattle.std.specs.Prelude.{◌≡◌, ◌+◌, ◌*◌, ◌<◌, ◌≤◌, ◌^◌, ◌++◌, [], ◌∷◌, IfOk, OnOk, length, sum_by, true};
 ghost use Rattle.chv_defs.specs.AddressMap.{below_hole, blocks_in, boot_end, boot_runs, is_within_limits, past_hole, plug_runs, region_start, regions_from, with_run};
 
-use chv_defs::{Region, Run, ZoneConfig};
+use chv_defs::{BLOCK_BYTES, Region, Run, ZoneConfig};
 use std::alloc::{AllocError, Global};
-
-/// The bytes of a block.
-pub const BLOCK_BYTES: u64 = 2_097_152;
 
 /// Where boot memory stops.
 const HOLE_START: u64 = 0xc000_0000;

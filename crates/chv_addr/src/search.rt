@@ -4,8 +4,7 @@ ghost use Rattle.std.specs.List.{prefix_len};
 ghost use Rattle.chv_defs.specs.AddressMap.{AreInOrder, holds, no_ram, ram_place, run_at, run_bytes};
 ghost use Rattle.chv_addr.specs.Search.{next_run};
 
-use crate::layout::BLOCK_BYTES;
-use chv_defs::{Place, Run};
+use chv_defs::{BLOCK_BYTES, Place, Run};
 
 /// The run that holds an address.
 pub fn run_at(runs: &[Run], addr: u64) -> Option<Run>

@@ -14,17 +14,15 @@ use crate::owner::serve_owner;
 use crate::sheets::Sheets;
 use crate::state::State;
 use crate::steps::unpin;
-use chv_defs::{BankCall, BankEntry, BankReply, BookId, Full, PageAt, Refusal, Row};
+use chv_defs::{
+    BankCall, BankEntry, BankReply, BookId, Full, MOST_ENTRIES, MOST_PAYLOAD, PAGE_BYTES, PageAt,
+    Refusal, Row,
+};
 use std::alloc::{AllocError, Global};
 use std::marker::Model;
 
-/// How many entries a bank has at most, reserved ones counted.
-const MOST_ENTRIES: u64 = 1_048_576;
-
-/// How many bytes of payload a bank has at most.
-const MOST_PAYLOAD: u64 = 16_777_216;
-
-const PAGE_BYTES: u64 = 4096;
+/// What a reserved page counts in the payload, in bytes.
+const PAGE_PAYLOAD: u64 = PAGE_BYTES as u64;
 
 /// A bank: one lock's share of a zone's memory, with its history. By its type the history is legal, and what is kept
 /// beside it is what the definitions say at its end. Contracts see which bank it is, its history, and for how many
@@ -86,7 +84,7 @@ impl Bank {
         ensures refused { (why : Refusal) → room_refusal self.old entries pages ≡ Some why → IsOk result }
         ensures err { OnErr result (self.new ≡ self.old) }
     {
-        if self.passes_limit(entries as u64, pages as u64 * PAGE_BYTES) {
+        if self.passes_limit(entries as u64, pages as u64 * PAGE_PAYLOAD) {
             return Ok(Err(self.full()));
         }
         let taken = self.reserved as usize + self.state.pins.len() + entries as usize;
@@ -252,7 +250,7 @@ impl Bank {
         ensures taken { result ≡ bytes_taken self.now }
         ensures small { result ≤ 16777216 }
     {
-        self.payload + self.sheets.len() as u64 * PAGE_BYTES
+        self.payload + self.sheets.len() as u64 * PAGE_PAYLOAD
     }
 
     // The refusal of a bank that is full.

@@ -2,11 +2,9 @@
 ghost use Rattle.std.specs.Prelude.{◌≡◌, ◌+◌, ◌<◌, ◌≤◌, IfOk, length, vec_len};
 ghost use Rattle.std.specs.Vec.{vec_capacity};
 
-use chv_defs::Bytes;
+use chv_defs::{Bytes, PAGE_BYTES};
 use std::alloc::{AllocError, Global};
 use std::marker::Model;
-
-const PAGE_BYTES: usize = 4096;
 
 /// Sheets: each has room for the bytes of one page. Contracts see how many there are.
 #[derive(Drop)]

@@ -4,6 +4,7 @@ ghost use Rattle.chv_defs.specs.ConfigRules.{cpu_rules, first_broken};
 
 use chv_defs::{Rule, VmConfig};
 
+/// How many vCPUs a machine has at most.
 const CPU_LIMIT: u64 = 16;
 
 /// The first rule on vCPUs that a configuration breaks.

@@ -7,10 +7,8 @@ use crate::disks::{disk_name, disk_names, has_bad_id, has_odd_queue, texts_of};
 use crate::ids::known_ids;
 use crate::memory::{growing_zones, zones_in_effect};
 use crate::texts::{are_among, has_text, has_twice};
-use chv_defs::{Checked, DiskConfig, Name, Row, Rule, Text, VmConfig};
+use chv_defs::{Checked, DiskConfig, Name, Row, Rule, SLOTS, Text, VmConfig};
 use std::alloc::{AllocError, Global};
-
-const DEVICES_LIMIT: usize = 31;
 
 /// The first rule on disks and devices that a configuration breaks, where disks of these names stand by.
 pub fn device_rule(
@@ -85,7 +83,7 @@ fn has_too_many_devices(config: &VmConfig) -> bool
     ensures { result ≡ too_many_devices config.now }
 {
     let growing = growing_zones(&config.memory);
-    growing > DEVICES_LIMIT || config.disks.len() > DEVICES_LIMIT - growing
+    growing > SLOTS || config.disks.len() > SLOTS - growing
 }
 
 /// The first rule that one further disk breaks, beside a configuration that is kept.

@@ -6,6 +6,7 @@ use crate::texts::is_id;
 use chv_defs::{DiskConfig, Name, Row, Text, last_component};
 use std::alloc::{AllocError, Global};
 
+/// The sizes that a queue can have: the powers of two up to 1,024.
 const QUEUE_SIZES: [u64; 11] = [1, 2, 4, 8, 16, 32, 64, 128, 256, 512, 1024];
 
 /// The name of a disk: the last component of its path.

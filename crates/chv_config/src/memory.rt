@@ -5,15 +5,18 @@ ghost use Rattle.chv_defs.specs.ConfigRules.{first_broken, grows, has_zones, hot
 ghost use Rattle.chv_defs.specs.Id.{is_id};
 
 use crate::texts::{has_twice, is_id};
-use chv_defs::{Hotplug, MemConfig, Row, Rule, Text, VmConfig, ZoneConfig, copy_of};
+use chv_defs::{
+    BLOCK_BYTES, Hotplug, MOST_ZONES, MemConfig, Row, Rule, Text, VmConfig, ZoneConfig, copy_of,
+};
 use std::alloc::{AllocError, Global};
 
-const BLOCK_BYTES: u64 = 2_097_152;
-
+/// How many bytes a zone has at most, plugged or not (64 GiB).
 const ZONE_LIMIT: u64 = 64 << 30;
 
-const ZONES_LIMIT: usize = 8;
+/// How many zones there are at most.
+const ZONES_LIMIT: usize = MOST_ZONES as usize;
 
+/// How many bytes the id of a zone has at most.
 const ZONE_ID_LIMIT: usize = 24;
 
 /// The first rule on memory that a configuration breaks.

@@ -5,16 +5,11 @@ ghost use Rattle.chv_defs.specs.declared.control.ControlReply.TheVariants.{Added
 ghost use Rattle.chv_defs.specs.ControlBook.{call_payload, entry_payload, full_at, payload, places, reply_payload};
 
 use chv_defs::{
-    BookId, ControlCall, ControlEntry, ControlReply, DeviceInfo, Full, Machine, Text, copy_of,
+    BookId, ControlCall, ControlEntry, ControlReply, DeviceInfo, Full, MOST_ENTRIES, MOST_PAYLOAD,
+    Machine, Text, copy_of,
 };
 use chv_json::{config_text, counters_text, device_text, disk_text, info_text};
 use std::alloc::{AllocError, Global};
-
-/// How many entries the control book has at most, the place that is kept for a Stop counted.
-const MOST_ENTRIES: u64 = 1_048_576;
-
-/// How many bytes of payload the control book has at most.
-const MOST_PAYLOAD: u64 = 16_777_216;
 
 /// The payload of the entry of a call that is answered so, in bytes.
 pub fn payload_of(

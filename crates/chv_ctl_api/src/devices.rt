@@ -11,13 +11,10 @@ use crate::life::done_unless;
 use crate::shelf::names_of;
 use chv_config::check_disk;
 use chv_defs::{
-    Checked, ControlReply, DiskConfig, Life, Machine, OnShelf, Row, Rule, Text, ZoneConfig,
+    Checked, ControlReply, DiskConfig, Life, Machine, OnShelf, Row, Rule, SLOTS, Text, ZoneConfig,
 };
 use std::alloc::{AllocError, Global};
 use std::mem;
-
-/// How many slots there are for devices.
-const SLOTS: usize = 31;
 
 /// The answer to an AddDisk.
 pub fn answer_add_disk(

@@ -11,10 +11,7 @@ ghost use Rattle.chv_defs.specs.ApiStep.{is_bad_vcpu_count, is_given_and, is_out
 ghost use Rattle.chv_defs.specs.ConfigRules.{first_broken, has_zones, own_zone};
 
 use crate::life::{is_running, refuse};
-use chv_defs::{Checked, ControlReply, Machine, Rule, Text, ZoneConfig};
-
-/// Bytes of a block.
-const BLOCK_BYTES: u64 = 2_097_152;
+use chv_defs::{BLOCK_BYTES, Checked, ControlReply, Machine, Rule, Text, ZoneConfig};
 
 /// The answer to a Resize; `ram` is in bytes.
 pub fn answer_resize(machine: &Machine, vcpus: Option<u64>, ram: Option<u64>) -> ControlReply

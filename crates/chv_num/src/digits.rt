@@ -9,13 +9,13 @@ ghost use Rattle.chv_defs.specs.Numbers.{is_decimal_digit, is_hex_digit, are_dig
 pub(crate) fn is_decimal(byte: u8) -> bool
     ensures { result ≡ is_decimal_digit byte }
 {
-    48 <= byte && byte <= 57
+    matches!(byte, b'0'..=b'9')
 }
 
 pub(crate) fn is_hex(byte: u8) -> bool
     ensures { result ≡ is_hex_digit byte }
 {
-    is_decimal(byte) || (byte <= 102 && byte >= 97)
+    is_decimal(byte) || matches!(byte, b'a'..=b'f')
 }
 
 /// The value of a digit of base 36 at most, and 36 for any other byte.

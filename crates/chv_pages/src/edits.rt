@@ -6,8 +6,9 @@ ghost use Rattle.chv_pages.specs.HeldPages.{has_number, held_at, is_address, put
 ghost use Rattle.chv_pages.specs.Order.{AreInOrder};
 
 use crate::held::Held;
-use crate::page::{PAGE_BYTES, Page};
+use crate::page::Page;
 use crate::reads::{find, has_page, is_there, number_of, piece_len, place_of};
+use chv_defs::PAGE_BYTES;
 use std::alloc::{AllocError, Global};
 
 /// Puts a page at its number, in place of the one that has it. Takes no memory.

@@ -4,10 +4,9 @@ ghost use Rattle.chv_defs.specs.PageContents.{is_blank};
 ghost use Rattle.chv_pages.specs.Copies.{CopiedAt};
 
 use crate::copies::copy_at;
+use chv_defs::PAGE_BYTES;
 use std::alloc::{AllocError, Global};
 use std::marker::Model;
-
-pub const PAGE_BYTES: usize = 4096;
 
 /// A page of 4,096 bytes. Contracts see the list of its bytes.
 #[derive(Drop)]

@@ -5,9 +5,9 @@ ghost use Rattle.chv_defs.specs.PageContents.{byte_at, bytes_at, pages_of, AreEx
 use crate::edits::{drop_block, hold_range, put_page, write_held};
 use crate::held::Held;
 use crate::lists::{blank_pages, count_shown, shown_pages};
-use crate::page::{PAGE_BYTES, Page};
+use crate::page::Page;
 use crate::reads::{number_of, read_held};
-use chv_defs::{PageAt, Row};
+use chv_defs::{PAGE_BYTES, PageAt, Row};
 use std::alloc::{AllocError, Global};
 use std::marker::Model;
 

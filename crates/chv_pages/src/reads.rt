@@ -7,7 +7,7 @@ ghost use Rattle.chv_pages.specs.Order.{AreInOrder};
 
 use crate::copies::{clear_at, copy_at};
 use crate::held::Held;
-use crate::page::PAGE_BYTES;
+use chv_defs::PAGE_BYTES;
 
 const BLOCK_PAGES: u64 = 512;
 
