@@ -1,5 +1,5 @@
 -- What each status of the program says of a run.
-use Rattle.std.specs.Prelude.{◌≡◌, ◌≤◌, ◌<◌, ◌⊎◌, ℕ, nat_lt, if◌then◌else◌, length, List, [], Option, Some, IfSome, Result, Ok, Err}
+use Rattle.std.specs.Prelude.{◌≡◌, ◌≤◌, ◌<◌, ◌⊎◌, ℕ, nat_lt, if◌then◌else◌, length, List, [], Option, IfSome, Result, Ok, Err}
 use Rattle.chv_defs.specs.declared.bank.Full.{Full}
 use Rattle.chv_defs.specs.declared.rule.Reason.{Reason}
 use Rattle.chv_defs.specs.declared.scene.OnShelf.{OnShelf}

@@ -1,5 +1,5 @@
 -- Why nothing was played, and what a status says of a run that plays, by cases.
-use Rattle.std.specs.Prelude.{◌≡◌, ◌⊎◌, ◌≤◌, ◌<◌, ℕ, List, [], Option, IfSome, Result, Ok, Err, length}
+use Rattle.std.specs.Prelude.{◌≡◌, ◌⊎◌, ◌≤◌, ◌<◌, ℕ, List, [], Option, Result, Ok, Err, length}
 use Rattle.chv_defs.specs.declared.scene.OnShelf.{OnShelf}
 use Rattle.chv_defs.specs.declared.scene.Scene.{Scene}
 use Rattle.chv_defs.specs.declared.bank.Full.{Full}
@@ -9,7 +9,6 @@ use Rattle.chv_defs.specs.ProgramText.{full_line, read_fault_line, scene_fault_l
 use Rattle.chv_defs.specs.ScenarioText.{read_scenario}
 use Rattle.chv_defs.specs.TraceText.{trace_text}
 use Rattle.chv_play.specs.Played.{IsLegalRun}
-use Rattle.chv_scene.specs.Answer.{scene_of}
 use Rattle.chv_top.specs.Outcome.{IsFull, IsInput, IsPartOfOwed, IsPlayed, IsRead, IsRefused, IsTooLong, most_input, of_schedule, text_of}
 use Rattle.chv_top.specs.declared.status.Status.{Status}
 use Rattle.chv_top.specs.declared.status.Status.TheVariants as status
