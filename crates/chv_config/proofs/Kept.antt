@@ -1,7 +1,7 @@
 -- A configuration that breaks no rule, and its devices.
 use Rattle.std.proofs.Common.{◌≡◌, ℕ, ◌+◌, ◌<◌, ◌≤◌, ◌^◌, Bool, true, false, List, [], ◌∷◌, ◌++◌, Option, None, Some, refl, sym, ◌∙◌, ap, arith, length, append_assoc, suc, cond}
 use Rattle.std.specs.Prelude.{unwrap_or, not, ◌||◌, map, filter, is_some, nat_lt}
-use Rattle.std.specs.List.{list_any, list_all, filter_map, enumerate_from}
+use Rattle.std.specs.List.{list_all, filter_map, enumerate_from}
 use Rattle.std.specs.Str.{bytes_eq}
 use Rattle.std.proofs.lemmas.List.{length-append, length-map, map-append}
 use Rattle.std.proofs.lemmas.List.Folds.{list_any-append}

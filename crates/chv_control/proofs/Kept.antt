@@ -1,6 +1,6 @@
 -- A further entry keeps what the type of the control value keeps.
-use Rattle.std.proofs.Common.{◌≡◌, ◌≤◌, ◌<◌, ◌+◌, ℕ, Bool, true, false, List, [], ◌∷◌, ◌++◌, if◌then◌else◌, nat_lt, length, None, Some, Option, refl, sym, subst, ◌∙◌, ap, arith, length-append}
-use Rattle.std.specs.Prelude.{◌||◌, sum_by}
+use Rattle.std.proofs.Common.{◌≡◌, ◌≤◌, ◌+◌, ℕ, Bool, true, false, List, [], ◌∷◌, ◌++◌, if◌then◌else◌, nat_lt, length, None, Some, refl, sym, subst, ◌∙◌, ap, arith, length-append}
+use Rattle.std.specs.Prelude.{◌||◌}
 use Rattle.std.proofs.lemmas.Bool.Decides.{nat_tests}
 use Rattle.chv_defs.specs.declared.bank.BookId.TheVariants.{Control}
 use Rattle.chv_defs.specs.declared.control.Goal.TheVariants.{Shutdown, Delete}
@@ -17,7 +17,7 @@ use Rattle.chv_defs.specs.BankState.{most_entries, most_payload}
 use Rattle.chv_defs.specs.Machine.{IsWellFormed, empty_machine}
 use Rattle.chv_defs.specs.ApiStep.{after, reply_to}
 use Rattle.chv_defs.specs.ControlBook.{entry_payload, full_at, is_stop, passes_limit, payload, places}
-use Rattle.chv_defs.specs.ControlStep.{MayCall, Step}
+use Rattle.chv_defs.specs.ControlStep.{Step}
 use Rattle.chv_defs.proofs.Leads.{Leads-push}
 use Rattle.chv_ctl_api.proofs.Kept.{IsWellFormed-after}
 use Rattle.chv_control.specs.Control.{IsKept}

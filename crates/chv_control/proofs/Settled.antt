@@ -1,6 +1,6 @@
 -- No entry of a legal history is answered Holding.
-use Rattle.std.proofs.Common.{◌≡◌, ℕ, Bool, true, false, List, [], ◌∷◌, Option, None, Some, filter, map, cond, refl, sym, subst, ◌∙◌, ap}
-use Rattle.std.specs.Prelude.{◌==◌, All}
+use Rattle.std.proofs.Common.{◌≡◌, ℕ, Bool, true, false, List, [], ◌∷◌, Option, None, Some, map, cond, refl, ◌∙◌, ap}
+use Rattle.std.specs.Prelude.{◌==◌}
 use Rattle.chv_defs.specs.declared.machine.Machine.{Machine}
 use Rattle.chv_defs.specs.declared.scene.OnShelf.{OnShelf}
 use Rattle.chv_defs.specs.declared.rule.Rule.{Rule}
@@ -9,8 +9,7 @@ use Rattle.chv_defs.specs.declared.control.ControlCall.TheVariants as call
 use Rattle.chv_defs.specs.declared.control.ControlReply.{ControlReply}
 use Rattle.chv_defs.specs.declared.control.ControlReply.TheVariants as reply
 use Rattle.chv_defs.specs.declared.control.ControlEntry.{ControlEntry}
-use Rattle.chv_defs.specs.ApiStep.{refusal_of, refused_or, reply_to, success_of}
-use Rattle.chv_defs.specs.ControlStep.{Step}
+use Rattle.chv_defs.specs.ApiStep.{refusal_of, refused_or, success_of}
 use Rattle.chv_defs.specs.Desks.{Answer, is_held, is_holding}
 use Rattle.chv_defs.specs.LegalControl.{Leads, answers_by, entries_by}
 

@@ -1,5 +1,4 @@
-use Rattle.std.proofs.Common.{◌∙◌, ap, sym, arith}
-use Rattle.std.specs.Prelude.{not}
+use Rattle.std.proofs.Common.{arith}
 use Rattle.chv_config.proofs.Twice.{known_disks}
 use Rattle.chv_config.proofs.devices.has_unknown_disk.Goals as goal
 

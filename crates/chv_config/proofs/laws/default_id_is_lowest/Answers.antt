@@ -1,4 +1,3 @@
-use Rattle.std.proofs.Common.{arith}
 use Rattle.chv_config.proofs.DefaultIds.{lowest_free-is}
 use Rattle.chv_config.proofs.laws.default_id_is_lowest.Goals as goal
 

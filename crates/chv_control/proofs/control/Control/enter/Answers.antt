@@ -1,7 +1,6 @@
 use Rattle.std.proofs.Common.{◌≡◌, ◌≤◌, ◌++◌, ◌∷◌, [], ◌+◌, sym, ap, ◌∙◌, subst, refl, arith, true, false, Bool, List, None, if◌then◌else◌}
 use Rattle.std.proofs.lemmas.Grind.{common_steps}
 use Rattle.std.proofs.lemmas.List.Sums.{sum_by_push}
-use Rattle.std.specs.Vec.{vec_len, vec_capacity}
 use Rattle.chv_defs.specs.declared.machine.Machine.{Machine}
 use Rattle.chv_defs.specs.declared.control.ControlEntry.{ControlEntry}
 use Rattle.chv_defs.specs.ApiStep.{after, reply_to}
