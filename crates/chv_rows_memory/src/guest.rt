@@ -1,33 +1,38 @@
 // The banks of all zones, as their owner reaches them: each call once with ample memory.
 ghost use Rattle.chv_defs.specs.declared.bank.BankCall.TheVariants as call;
 ghost use Rattle.chv_defs.specs.declared.bank.BankReply.TheVariants as reply;
+ghost use Rattle.chv_defs.specs.Zones.{most_zones, OtherZonesStay};
 ghost use Rattle.chv_guest.specs.LentBanks.{fresh_banks, known_at};
-ghost use Rattle.std.specs.Prelude.{◌≡◌, [], ◌∷◌, true, IfOk};
+ghost use Rattle.std.specs.Prelude.{◌≡◌, ◌<◌, [], ◌∷◌, true, IfOk, length};
 
+use crate::pages::is_page;
 use chv_bank::Bank;
-use chv_defs::{BankCall, BankEntry, BankReply, BookId, Full, Refusal, Zones};
+use chv_defs::{BankCall, BankEntry, BankReply, BookId, Bytes, Full, Refusal, Zones};
 use chv_guest::LentBanks;
-use std::alloc::AllocError;
+use std::alloc::{AllocError, Global};
 use std::test::Fail;
 
-// Makes room for two entries in zone 0.
-fn has_room(zones: &mut LentBanks) -> Result<bool, AllocError>
-    requires { zones.old ≡ fresh_banks }
-    ensures { IfOk result (λ made. made ≡ true → known_at zones.new 0 0 ≡ record { history = []; entries = 2; pages = 0 }) }
+// Makes room for two entries in a zone, and for pages.
+pub fn has_room(zones: &mut LentBanks, zone: u8, pages: u32) -> Result<bool, AllocError>
+    requires zone { zone < most_zones }
+    requires fresh { known_at zones.old zone 0 ≡ record { history = []; entries = 0; pages = 0 } }
+    ensures made { IfOk result (λ made. made ≡ true → known_at zones.new zone 0 ≡ record { history = []; entries = 2; pages = pages }) }
+    ensures others { OtherZonesStay (known_at zones.old) (known_at zones.new) zone }
 {
-    Ok(zones.room((), 0, 2, 0)?.is_ok())
+    Ok(zones.room((), zone, 2, pages)?.is_ok())
 }
 
-// Shapes the bank of zone 0.
-fn shape(zones: &mut LentBanks) -> bool
-    requires { known_at zones.old 0 0 ≡ record { history = []; entries = 2; pages = 0 } }
-    ensures { known_at zones.new 0 0 ≡ record {
+// Shapes the bank of a zone.
+fn shape(zones: &mut LentBanks, zone: u8) -> bool
+    requires zone { zone < most_zones }
+    requires history { (known_at zones.old zone 0).history ≡ [] }
+    requires entries { (known_at zones.old zone 0).entries ≡ 2 }
+    ensures { known_at zones.new zone 0 ≡ record (known_at zones.old zone 0) {
       history = record { caller = 0; call = call.Shape 256; reply = reply.Done } ∷ [];
       entries = 1;
-      pages = 0;
     } }
 {
-    zones.owner((), 0, 0, &BankCall::Shape(256)) == BankReply::Done
+    zones.owner((), zone, 0, &BankCall::Shape(256)) == BankReply::Done
 }
 
 // Whether a history is one entry, by which the owner shaped the bank.
@@ -47,8 +52,8 @@ fn wiped(zones: &mut LentBanks) -> Result<bool, AllocError>
     requires { zones.old ≡ fresh_banks }
 {
     Ok(
-        has_room(zones)?
-            && shape(zones)
+        has_room(zones, 0, 0)?
+            && shape(zones, 0)
             && is_shape(zones.history(0, 0))
             && zones.history(1, 0).is_empty()
             && zones.owner((), 0, 0, &BankCall::Wipe) == BankReply::Done
@@ -73,6 +78,54 @@ fn filled_up(zones: &mut LentBanks) -> Result<bool, AllocError>
     Ok(is_full && has_room && zones.pages((), 0, 0)?.is_empty())
 }
 
+// A page that is zero but for its eighth byte.
+fn page_of_five(alloc: Global) -> Result<Bytes, AllocError>
+    ensures { IfOk result (λ bytes. length bytes ≡ 4096) }
+{
+    let mut bytes = vec![in alloc; 0; 4096]?;
+    bytes[7] = 5;
+    Ok(Bytes::new(bytes))
+}
+
+// Fills page 3 of the first block of the last zone.
+fn fill(zones: &mut LentBanks, bytes: Bytes) -> bool
+    requires bytes { length bytes ≡ 4096 }
+    requires room { known_at zones.old 7 0 ≡ record {
+      history = record { caller = 0; call = call.Shape 256; reply = reply.Done } ∷ [];
+      entries = 1;
+      pages = 1;
+    } }
+{
+    let fill = BankCall::Fill {
+        block: 0,
+        page: 3,
+        bytes,
+    };
+    zones.owner((), 7, 0, &fill) == BankReply::Done
+}
+
+// Whether the last zone lists that page, and no other.
+fn lists_five(zones: &mut LentBanks) -> Result<bool, AllocError> {
+    let pages = zones.pages((), 7, 0)?;
+    Ok(match pages.as_slice() {
+        [page] => is_page(page, &(0, 3, 7, 5)),
+        _ => false,
+    })
+}
+
+// A page is filled in the last zone and listed there, and in no other.
+fn filled(alloc: Global, zones: &mut LentBanks) -> Result<bool, AllocError>
+    requires { zones.old ≡ fresh_banks }
+{
+    Ok(
+        has_room(zones, 7, 1)?
+            && shape(zones, 7)
+            && fill(zones, page_of_five(alloc)?)
+            && lists_five(zones)?
+            && zones.pages((), 0, 0)?.is_empty(),
+    )
+}
+
 // Whether one of these banks was shaped.
 fn is_shaped(banks: Vec<Bank>) -> bool {
     let mut shaped = false;
@@ -90,7 +143,9 @@ fn zones(rt: HostRuntime) -> Result<(), Fail> {
     let mut second = LentBanks::new(rt.alloc())?;
     assert!(rt; filled_up(&mut second)?);
     let mut third = LentBanks::new(rt.alloc())?;
-    assert!(rt; has_room(&mut third)? && shape(&mut third));
-    assert!(rt; is_shaped(third.into_banks()));
+    assert!(rt; filled(rt.alloc(), &mut third)?);
+    let mut fourth = LentBanks::new(rt.alloc())?;
+    assert!(rt; has_room(&mut fourth, 0, 0)? && shape(&mut fourth, 0));
+    assert!(rt; is_shaped(fourth.into_banks()));
     Ok(())
 }

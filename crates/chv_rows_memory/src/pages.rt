@@ -7,9 +7,10 @@ use std::alloc::{AllocError, Global};
 use std::test::Fail;
 
 /// A page that is zero but for one byte: its block, its number, and where which byte stands.
-type Page = (u32, u16, usize, u8);
+pub type Page = (u32, u16, usize, u8);
 
-fn is_page(page: &PageAt, want: &Page) -> bool {
+/// Whether a page is this one.
+pub fn is_page(page: &PageAt, want: &Page) -> bool {
     page.block == want.0
         && page.page == want.1
         && page.bytes.len() == 4096

@@ -1,5 +1,7 @@
-use Rattle.std.proofs.Common.{ap, ◌∙◌}
+use Rattle.std.proofs.Common.{◌≡◌, ℕ, ◌-◌, List, [], ◌∷◌, ap, arith, ◌∙◌}
 use Rattle.chv_defs.specs.declared.bank.BankCall.TheVariants as call
+use Rattle.chv_defs.specs.declared.bank.BankEntry.{BankEntry}
+use Rattle.chv_defs.specs.declared.bank.BankReply.TheVariants as reply
 use Rattle.chv_defs.specs.Zones.{Known}
 use Rattle.chv_defs.proofs.ZoneLaws.{entered_by, enters-none}
 use Rattle.chv_guest.specs.LentBanks.{known_at}
@@ -7,5 +9,15 @@ use Rattle.chv_rows_memory.proofs.guest.shape.Goals as goal
 
 pub returns : goal.returns
 returns c =
-    (enters-none 0 (known_at c.args.zones.now 0 0) (known_at c.owner.new.self 0 0) (call.Shape 256) c.owner.result c.owner.ensures.entered).1
-    ∙ ap (λ (k : Known). entered_by 0 (call.Shape 256) k) c.requires
+    let before : Known = known_at c.args.zones.now c.args.zone 0 in
+    let made : List BankEntry → ℕ → Known = λ history entries. entered_by 0 (call.Shape 256) (record before { history = history; entries = entries }) in
+    let left : ℕ → Known = λ pages. record {
+      history = record { caller = 0; call = call.Shape 256; reply = reply.Done } ∷ [];
+      entries = 1;
+      pages = pages;
+    } in
+    let none_used : before.pages - 0 ≡ before.pages = omega arith in
+    (enters-none 0 before (known_at c.owner.new.self c.args.zone 0) (call.Shape 256) c.owner.result c.owner.ensures.entered).1
+    ∙ ap (λ (history : List BankEntry). made history before.entries) c.requires.history
+    ∙ ap (λ (entries : ℕ). made [] entries) c.requires.entries
+    ∙ ap left none_used
