@@ -1,18 +1,20 @@
 -- Banks to which nothing happened yet are at rest.
-use Rattle.std.proofs.Common.{◌≡◌, ℕ, ◌<◌, ◌≤◌, Bool, true, false, Option, None, Some, refl, sym, subst, arith, length}
+use Rattle.std.proofs.Common.{◌≡◌, ℕ, ◌<◌, ◌≤◌, Bool, true, false, [], ◌∷◌, Option, None, Some, refl, sym, subst, arith, length}
 use Rattle.std.specs.Prelude.{◌&&◌, nat_le}
 use Rattle.std.proofs.lemmas.List.FromFn.{get_or-map-range_with_len}
 use Rattle.std.proofs.lemmas.Bool.Decides.{nat_tests}
+use Rattle.chv_defs.specs.declared.bank.BankCall.TheVariants as call
+use Rattle.chv_defs.specs.declared.bank.BankReply.TheVariants as reply
 use Rattle.chv_defs.specs.declared.config.Checked.{Checked}
 use Rattle.chv_defs.specs.declared.machine.Machine.{Machine}
 use Rattle.chv_defs.specs.declared.machine.Life.{Life}
 use Rattle.chv_defs.specs.declared.machine.Life.TheVariants as life
-use Rattle.chv_defs.specs.AddressMap.{is_within_limits}
 use Rattle.chv_defs.specs.ApiStep.{is_paused}
 use Rattle.chv_defs.specs.BankBook.{BankBook, fresh}
 use Rattle.chv_defs.specs.BankState.{banks}
 use Rattle.chv_defs.specs.Machine.{HasChecked, IsUnpaused}
-use Rattle.chv_defs.specs.OwnerCalls.{zones_in}
+use Rattle.chv_defs.specs.OwnerCalls.{zones_in, zones_of}
+use Rattle.chv_defs.specs.Zones.{Known}
 use Rattle.chv_guest.specs.LentBanks.{bank_at, bank_count, fresh_at, fresh_banks, known_at, place_of}
 use Rattle.chv_addr.proofs.Limits.{checked-within}
 use Rattle.chv_ctl_mem.specs.ZoneCalls.{AreAtRest, IsAtRest}
@@ -47,3 +49,19 @@ unpaused life.Running u = refl
 unpaused (life.Hold holder goal) u = refl
 unpaused life.Paused u = absurd u
 unpaused life.Shutdown u = refl
+
+-- ---- two zones that are frozen
+
+-- a bank that was frozen, with a place for its Thaw
+abbrev pub frozen_bank : Known
+frozen_bank = record {
+  history = record { caller = 0; call = call.Freeze; reply = reply.Done } ∷ [];
+  entries = 1;
+  pages = 0;
+}
+
+pub frozen-at-rest : (m : Machine) (known : ℕ → ℕ → Known) → length (zones_of m) ≡ 2 → ((z : ℕ) → z < 2 → known z 0 ≡ frozen_bank) → AreAtRest true m known
+frozen-at-rest m known two frozen z b zone bank =
+    let lowest : b ≡ 0 = omega (arith, bank) in
+    subst (λ (b : ℕ). IsAtRest true (known z b)) (sym lowest)
+    (subst (IsAtRest true) (sym (frozen z (omega (arith, zone, two)))) (record { frozen_so = refl; entries = refl; pages = refl }))

@@ -1,4 +1,4 @@
-use Rattle.std.proofs.Common.{◌≡◌, Bool, false, sym, subst, List}
+use Rattle.std.proofs.Common.{Bool, false, sym, subst, List}
 use Rattle.chv_defs.specs.BankBook.{BankBook}
 use Rattle.chv_guest.specs.LentBanks.{known_at}
 use Rattle.chv_ctl_mem.specs.ZoneCalls.{AreAtRest}
