@@ -229,21 +229,51 @@ fn memory_at_a_boot_and_at_a_wipe(rt: HostRuntime) -> Result<(), Fail> {
     Ok(())
 }
 
-// A boot and a wipe of a machine of two zones, and a wipe of it while it is paused.
+// Creates a machine of two zones.
+fn create_two(alloc: Global, machine: &mut Machine) -> Result<(), AllocError>
+    requires { IsWellFormed machine.old }
+    ensures { IsWellFormed machine.new }
+{
+    let config = config_of_two(alloc)?;
+    let shelf = Row::empty(alloc);
+    create(alloc, machine, &shelf, config)
+}
+
+// A boot and a wipe of a machine of two zones, and a wipe of it while it is paused, each over one of these banks.
+fn two_come(
+    alloc: Global,
+    machine: &mut Machine,
+    first: &mut LentBanks,
+    second: &mut LentBanks,
+    third: &mut LentBanks,
+) -> Result<bool, AllocError>
+    requires machine { IsWellFormed machine.old }
+    requires first { first.old ≡ fresh_banks }
+    requires second { second.old ≡ fresh_banks }
+    requires third { third.old ≡ fresh_banks }
+{
+    create_two(alloc, machine)?;
+    if !boots(machine, first, 2, 3)? || !wipes(machine, second, true)? {
+        return Ok(false);
+    }
+    machine.life = Life::Paused;
+    wipes_paused(machine, third)
+}
+
 #[test]
 fn memory_of_two_zones(rt: HostRuntime) -> Result<(), Fail> {
-    let shelf = Row::empty(rt.alloc());
-    let mut machine = nothing(rt.alloc());
-    create(rt.alloc(), &mut machine, &shelf, config_of_two(rt.alloc())?)?;
     let mut first = LentBanks::new(rt.alloc())?;
-    let booted = boots(&machine, &mut first, 2, 3);
     let mut second = LentBanks::new(rt.alloc())?;
-    let wiped = wipes(&machine, &mut second, true);
-    machine.life = Life::Paused;
     let mut third = LentBanks::new(rt.alloc())?;
-    let thawed = wipes_paused(&machine, &mut third);
+    let mut machine = nothing(rt.alloc());
+    let came = two_come(
+        rt.alloc(),
+        &mut machine,
+        &mut first,
+        &mut second,
+        &mut third,
+    );
     drop(machine);
-    drop(shelf);
-    assert!(rt; booted? && wiped? && thawed?);
+    assert!(rt; came?);
     Ok(())
 }
