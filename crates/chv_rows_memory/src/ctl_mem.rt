@@ -213,19 +213,30 @@ fn wipes_paused(machine: &Machine, zones: &mut LentBanks) -> Result<bool, AllocE
     )
 }
 
-// A boot and a wipe of the plain machine, whose one zone has 512 MiB.
+// A boot and a wipe of the plain machine, whose one zone has 512 MiB, each over one of these banks.
+fn one_comes(
+    alloc: Global,
+    machine: &mut Machine,
+    first: &mut LentBanks,
+    second: &mut LentBanks,
+) -> Result<bool, AllocError>
+    requires machine { IsWellFormed machine.old }
+    requires first { first.old ≡ fresh_banks }
+    requires second { second.old ≡ fresh_banks }
+{
+    let shelf = Row::empty(alloc);
+    create(alloc, machine, &shelf, plain_config(alloc))?;
+    Ok(boots(machine, first, 256, 0)? && wipes(machine, second, false)?)
+}
+
 #[test]
 fn memory_at_a_boot_and_at_a_wipe(rt: HostRuntime) -> Result<(), Fail> {
-    let shelf = Row::empty(rt.alloc());
-    let mut machine = nothing(rt.alloc());
-    create(rt.alloc(), &mut machine, &shelf, plain_config(rt.alloc()))?;
     let mut first = LentBanks::new(rt.alloc())?;
-    let booted = boots(&machine, &mut first, 256, 0);
     let mut second = LentBanks::new(rt.alloc())?;
-    let wiped = wipes(&machine, &mut second, false);
+    let mut machine = nothing(rt.alloc());
+    let came = one_comes(rt.alloc(), &mut machine, &mut first, &mut second);
     drop(machine);
-    drop(shelf);
-    assert!(rt; booted? && wiped?);
+    assert!(rt; came?);
     Ok(())
 }
 
