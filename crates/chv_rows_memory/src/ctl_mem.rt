@@ -83,8 +83,8 @@ fn create(
     Ok(())
 }
 
-// Whether an entry is the owner's and was done.
-fn is_done(entry: &BankEntry) -> bool {
+// Whether an entry is a call of the owner, answered Done.
+fn is_done_by_owner(entry: &BankEntry) -> bool {
     entry.caller == 0 && entry.reply == BankReply::Done
 }
 
@@ -92,7 +92,8 @@ fn is_done(entry: &BankEntry) -> bool {
 fn is_shaped(history: &[BankEntry], blocks: u32) -> bool {
     match history {
         [] => blocks == 0,
-        [entry] => is_done(entry) && matches!(entry.call, BankCall::Shape(n) if n == blocks),
+        [entry] => is_done_by_owner(entry)
+            && matches!(entry.call, BankCall::Shape(n) if n == blocks),
         _ => false,
     }
 }
@@ -101,7 +102,7 @@ fn is_shaped(history: &[BankEntry], blocks: u32) -> bool {
 fn is_wiped(history: &[BankEntry], is_in_effect: bool) -> bool {
     match history {
         [] => !is_in_effect,
-        [entry] => is_in_effect && is_done(entry) && matches!(entry.call, BankCall::Wipe),
+        [entry] => is_in_effect && is_done_by_owner(entry) && matches!(entry.call, BankCall::Wipe),
         _ => false,
     }
 }
@@ -184,11 +185,11 @@ fn has_two_zones(machine: &Machine) -> bool
 fn is_thawed(history: &[BankEntry]) -> bool {
     match history {
         [first, second, third] => {
-            is_done(first)
+            is_done_by_owner(first)
                 && matches!(first.call, BankCall::Freeze)
-                && is_done(second)
+                && is_done_by_owner(second)
                 && matches!(second.call, BankCall::Thaw)
-                && is_done(third)
+                && is_done_by_owner(third)
                 && matches!(third.call, BankCall::Wipe)
         }
         _ => false,
