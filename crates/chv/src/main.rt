@@ -2,7 +2,7 @@
 //! ends with the exit code of its status.
 #![tactic(auto)]
 
-use chv_defs::Name;
+use chv_defs_base::Name;
 use chv_io::{StdSink, StdSource};
 use chv_store::MemDisk;
 use chv_top::{Status, run_program};

@@ -3,14 +3,14 @@ use Rattle.std.proofs.Common.{◌≡◌, ℕ, ◌+◌, ◌*◌, ◌<◌, ◌^◌
 use Rattle.std.specs.Prelude.{nat_le, nat_lt, Ok}
 use Rattle.std.specs.List.{list_all, list_any}
 use Rattle.std.proofs.lemmas.Bool.Decides.{nat_tests}
-use Rattle.chv_defs.specs.declared.config.Checked.{Checked}
-use Rattle.chv_defs.specs.declared.config.MemConfig.{MemConfig}
-use Rattle.chv_defs.specs.declared.config.VmConfig.{VmConfig}
-use Rattle.chv_defs.specs.declared.config.ZoneConfig.{ZoneConfig}
-use Rattle.chv_defs.specs.declared.rule.Rule.{Rule}
-use Rattle.chv_defs.specs.declared.rule.Rule.TheVariants.{BootZero}
-use Rattle.chv_defs.specs.ConfigRules.{IsChecked, checked_of, config_rules, first_broken, has_zones, own_zone, too_many_zones, unless_refused, verdict, zone_too_large, zones_in_effect}
-use Rattle.chv_defs.specs.AddressMap.{is_within_limits}
+use Rattle.chv_defs_api.specs.declared.config.Checked.{Checked}
+use Rattle.chv_defs_api.specs.declared.config.MemConfig.{MemConfig}
+use Rattle.chv_defs_api.specs.declared.config.VmConfig.{VmConfig}
+use Rattle.chv_defs_api.specs.declared.config.ZoneConfig.{ZoneConfig}
+use Rattle.chv_defs_base.specs.declared.rule.Rule.{Rule}
+use Rattle.chv_defs_base.specs.declared.rule.Rule.TheVariants.{BootZero}
+use Rattle.chv_defs_api.specs.ConfigRules.{IsChecked, checked_of, config_rules, first_broken, has_zones, own_zone, too_many_zones, unless_refused, verdict, zone_too_large, zones_in_effect}
+use Rattle.chv_addr.specs.AddressMap.{is_within_limits}
 
 -- where no rule is broken, none of them is
 none-broken : (rows : List (Bool × Rule)) (k : ℕ) (d : Bool × Rule) → k < length rows → first_broken rows ≡ None → (get_or rows k d).0 ≡ false

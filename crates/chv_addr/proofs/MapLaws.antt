@@ -6,9 +6,10 @@ use Rattle.std.proofs.lemmas.Bool.{cases_lt}
 use Rattle.std.proofs.lemmas.Bool.Decides.{nat_tests}
 use Rattle.std.proofs.lemmas.List.Elements.{All-tail}
 use Rattle.std.proofs.lemmas.List.Sums.{sum_by-cons, sum_by-append}
-use Rattle.chv_defs.specs.declared.config.ZoneConfig.{ZoneConfig}
-use Rattle.chv_defs.specs.declared.run.Run.{Run}
-use Rattle.chv_defs.specs.AddressMap.{AreInOrder, addresses_of, below_hole, block_bytes, blocks_in, blocks_of, boot_end, boot_runs, has_block, hole_start, hole_end, holders, holds, is_clear, map_of, past_hole, plug_runs, region_start, run_bytes, slots, window_bytes, window_start, with_run}
+use Rattle.chv_defs_api.specs.declared.config.ZoneConfig.{ZoneConfig}
+use Rattle.chv_addr.specs.declared.run.Run.{Run}
+use Rattle.chv_addr.specs.AddressMap.{AreInOrder, addresses_of, below_hole, blocks_of, boot_end, boot_runs, has_block, hole_start, hole_end, holders, holds, is_clear, map_of, past_hole, plug_runs, region_start, run_bytes, slots, window_bytes, window_start, with_run}
+use Rattle.chv_defs_base.specs.Sizes.{block_bytes, blocks_in}
 use Rattle.chv_addr.proofs.Zones.{map-clear, map-order}
 
 -- ---- counts

@@ -6,8 +6,8 @@ use Rattle.std.specs.List.Sorted.{IsNonDecreasingBy}
 use Rattle.std.proofs.lemmas.List.Sorted.{IsNonDecreasingBy-from_all_adjacent}
 use Rattle.std.proofs.lemmas.List.Elements.{All-tail}
 use Rattle.std.proofs.lemmas.Bool.Decides.{nat_tests}
-use Rattle.chv_defs.specs.declared.run.Run.{Run}
-use Rattle.chv_defs.specs.AddressMap.{AreInOrder, holds, is_apart, no_ram, run_at, run_bytes}
+use Rattle.chv_addr.specs.declared.run.Run.{Run}
+use Rattle.chv_addr.specs.AddressMap.{AreInOrder, holds, is_apart, no_ram, run_at, run_bytes}
 use Rattle.chv_addr.specs.Search.{next_run}
 
 -- ---- the next run

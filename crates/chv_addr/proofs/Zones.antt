@@ -6,9 +6,10 @@ use Rattle.std.proofs.lemmas.Bool.{cases_lt}
 use Rattle.std.proofs.lemmas.Bool.Decides.{nat_tests}
 use Rattle.std.proofs.lemmas.List.Elements.{All-cons, All-tail, All-append}
 use Rattle.std.proofs.lemmas.List.Sums.{AllPass-from_list_all, sum_by-cons}
-use Rattle.chv_defs.specs.declared.config.ZoneConfig.{ZoneConfig}
-use Rattle.chv_defs.specs.declared.run.Run.{Run}
-use Rattle.chv_defs.specs.AddressMap.{AreInOrder, AreNumbered, IsMap, below_hole, block_bytes, blocks_in, boot_end, boot_runs, hole_start, hole_end, is_clear, is_within_limits, map_of, past_hole, plug_runs, region_start, regions_from, run_bytes, with_run}
+use Rattle.chv_defs_api.specs.declared.config.ZoneConfig.{ZoneConfig}
+use Rattle.chv_addr.specs.declared.run.Run.{Run}
+use Rattle.chv_addr.specs.AddressMap.{AreInOrder, AreNumbered, IsMap, below_hole, boot_end, boot_runs, hole_start, hole_end, is_clear, is_within_limits, map_of, past_hole, plug_runs, region_start, regions_from, run_bytes, with_run}
+use Rattle.chv_defs_base.specs.Sizes.{block_bytes, blocks_in}
 
 -- ---- limits
 

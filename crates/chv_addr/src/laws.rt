@@ -1,9 +1,9 @@
 // Laws of the definitions.
 ghost use Rattle.std.specs.Prelude.{◌≡◌, ℕ, ◌<◌, ◌≤◌, Some, slice_get, true};
-ghost use Rattle.chv_defs.specs.AddressMap.{addresses_of, blocks_of, holders, is_within_limits, map_of};
-ghost use Rattle.chv_defs.specs.ConfigRules.{IsChecked};
+ghost use Rattle.chv_addr.specs.AddressMap.{addresses_of, blocks_of, holders, is_within_limits, map_of};
+ghost use Rattle.chv_defs_api.specs.ConfigRules.{IsChecked};
 
-use chv_defs::{Checked, ZoneConfig};
+use chv_defs_api::{Checked, ZoneConfig};
 
 /// No address lies in two intervals: each lies in at most one run of RAM or window.
 pub fn intervals_never_overlap(zones: &[ZoneConfig])

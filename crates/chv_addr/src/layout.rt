@@ -1,8 +1,11 @@
 // Where memory lies: boot memory with a hole below 4 GiB, and the hotplug regions above it.
 ghost use Rattle.std.specs.Prelude.{◌≡◌, ◌+◌, ◌*◌, ◌<◌, ◌≤◌, ◌^◌, ◌++◌, [], ◌∷◌, IfOk, OnOk, length, sum_by, true};
-ghost use Rattle.chv_defs.specs.AddressMap.{below_hole, blocks_in, boot_end, boot_runs, is_within_limits, past_hole, plug_runs, region_start, regions_from, with_run};
+ghost use Rattle.chv_addr.specs.AddressMap.{below_hole, boot_end, boot_runs, is_within_limits, past_hole, plug_runs, region_start, regions_from, with_run};
+ghost use Rattle.chv_defs_base.specs.Sizes.{blocks_in};
 
-use chv_defs::{BLOCK_BYTES, Region, Run, ZoneConfig};
+use crate::{Region, Run};
+use chv_defs_api::ZoneConfig;
+use chv_defs_base::BLOCK_BYTES;
 use std::alloc::{AllocError, Global};
 
 /// Where boot memory stops.

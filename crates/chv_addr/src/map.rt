@@ -1,11 +1,12 @@
 // The address map of a machine.
 ghost use Rattle.std.specs.Prelude.{◌≡◌, ◌+◌, ◌<◌, ◌≤◌, ◌^◌, IfOk, length, slice_get, true};
-ghost use Rattle.chv_defs.specs.AddressMap.{AreInOrder, bare_place, is_within_limits, map_of, place_of};
+ghost use Rattle.chv_addr.specs.AddressMap.{AreInOrder, bare_place, is_within_limits, map_of, place_of};
 
 use crate::layout::{boot_end, boot_runs, push_plug_runs, regions};
 use crate::search::{ram_place, run_at, touches_ram};
 use crate::windows::{bar_place, slot_at, touches_window};
-use chv_defs::{Checked, Place, Region, Run};
+use crate::{Place, Region, Run};
+use chv_defs_api::Checked;
 use std::alloc::{AllocError, Global};
 use std::marker::Model;
 
@@ -17,7 +18,7 @@ pub struct AddrMap {
 }
 
 impl Model for AddrMap {
-    ghost use Rattle.chv_defs.specs.AddressMap.{AddressMap, IsMap};
+    ghost use Rattle.chv_addr.specs.AddressMap.{AddressMap, IsMap};
 
     ghost Value = { AddressMap };
 

@@ -1,10 +1,11 @@
 // The search for a run.
 ghost use Rattle.std.specs.Prelude.{◌≡◌, ◌+◌, ◌-◌, ◌<◌, ◌≤◌, ◌^◌, not, nat_le, slice_get, true};
 ghost use Rattle.std.specs.List.{prefix_len};
-ghost use Rattle.chv_defs.specs.AddressMap.{AreInOrder, holds, no_ram, ram_place, run_at, run_bytes};
+ghost use Rattle.chv_addr.specs.AddressMap.{AreInOrder, holds, no_ram, ram_place, run_at, run_bytes};
 ghost use Rattle.chv_addr.specs.Search.{next_run};
 
-use chv_defs::{BLOCK_BYTES, Place, Run};
+use crate::{Place, Run};
+use chv_defs_base::BLOCK_BYTES;
 
 /// The run that holds an address.
 pub fn run_at(runs: &[Run], addr: u64) -> Option<Run>

@@ -1,8 +1,8 @@
 // The windows of devices.
 ghost use Rattle.std.specs.Prelude.{◌≡◌, ◌+◌, ◌≤◌, not, true};
-ghost use Rattle.chv_defs.specs.AddressMap.{bar_place, holds, no_window, slot_at, window_bytes, window_start};
+ghost use Rattle.chv_addr.specs.AddressMap.{bar_place, holds, no_window, slot_at, window_bytes, window_start};
 
-use chv_defs::Place;
+use crate::Place;
 
 /// Where the window of slot 0 would begin.
 const WINDOWS: u64 = 0xe000_0000;

@@ -2,7 +2,7 @@
 use Rattle.std.proofs.Common.{◌≡◌, ◌≢◌, ℕ, Bool, true, false, List, [], ◌∷◌, ◌++◌, refl, ap}
 use Rattle.std.proofs.lemmas.Bool.{eqb-true}
 use Rattle.std.specs.Prelude.{◌==◌, if◌then◌else◌}
-use Rattle.chv_defs.specs.Routes.{without_final_slash}
+use Rattle.chv_defs_api.specs.Routes.{without_final_slash}
 
 -- where one stands at the end
 pub without_final_slash-front : (front : List ℕ) → without_final_slash (front ++ (47 ∷ [])) ≡ front

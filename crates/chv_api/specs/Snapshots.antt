@@ -1,8 +1,8 @@
 -- The snapshots that bodies name.
 use Rattle.std.specs.Prelude.{ℕ, List, Result}
-use Rattle.chv_defs.specs.JsonBodies.{◌>>=◌, text_of}
-use Rattle.chv_defs.specs.Routes.{snapshot_name}
-use Rattle.chv_defs.specs.declared.rule.Rule.{Rule}
+use Rattle.chv_defs_api.specs.JsonBodies.{◌>>=◌, text_of}
+use Rattle.chv_defs_api.specs.Routes.{snapshot_name}
+use Rattle.chv_defs_base.specs.declared.rule.Rule.{Rule}
 
 -- the name of the snapshot whose URL stands at a key of a body
 abbrev pub snapshot_at : List ℕ → List ℕ → Result (List ℕ) Rule

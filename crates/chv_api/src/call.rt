@@ -1,13 +1,14 @@
 // The control call of a request.
 ghost use Rattle.std.specs.Prelude.{◌≡◌, IfOk, option_copied};
-ghost use Rattle.chv_defs.specs.Routes as routes;
+ghost use Rattle.chv_defs_api.specs.Routes as routes;
 
 use crate::route::{get_call, put_call};
-use chv_defs::{ControlCall, Request, Rule};
+use chv_defs_api::{ControlCall, Request};
+use chv_defs_base::Rule;
 use std::alloc::{AllocError, Global};
 
 // The name of the route that a target asks for: what stands behind `/api/v1/`.
-#[tactic(auto, unfolding(chv_defs::specs::Routes::target_front))]
+#[tactic(auto, unfolding(chv_defs_api::specs::Routes::target_front))]
 fn route_name(target: &str) -> Option<&str>
     ensures { option_copied result ≡ routes.route_name target.now }
 {
@@ -16,7 +17,7 @@ fn route_name(target: &str) -> Option<&str>
 
 /// The control call that a request makes, or the rule that refuses it before the control machine is asked: NoRoute where
 /// no route has this method and target; then what its body breaks first; and BadName where a snapshot's URL names none.
-#[tactic(auto, unfolding(chv_defs::specs::Routes::call_of_request))]
+#[tactic(auto, unfolding(chv_defs_api::specs::Routes::call_of_request))]
 pub fn calls_of(alloc: Global, request: &Request) -> Result<Result<ControlCall, Rule>, AllocError>
     ensures { IfOk result (λ answer. answer ≡ routes.call_of_request request.now) }
 {

@@ -1,9 +1,10 @@
 // The bytes of replies.
 ghost use Rattle.std.specs.Prelude.{◌≡◌, IfOk};
-ghost use Rattle.chv_defs.specs.JsonTexts as texts;
-ghost use Rattle.chv_defs.specs.Routes as routes;
+ghost use Rattle.chv_defs_api.specs.JsonTexts as texts;
+ghost use Rattle.chv_defs_api.specs.Routes as routes;
 
-use chv_defs::{Bytes, ControlCall, ControlReply, DeviceInfo, Rule, Text};
+use chv_defs_api::{ControlCall, ControlReply, DeviceInfo};
+use chv_defs_base::{Bytes, Rule, Text};
 use chv_http::reply_bytes;
 use chv_json::{counters_text, device_text, info_text};
 use std::alloc::{AllocError, Global};
@@ -56,7 +57,7 @@ fn rule_body(alloc: Global, rule: Rule) -> Result<Text, AllocError>
     Ok(Text::new(format!(in alloc; "{{\"rule\":\"{name}\"}}")?))
 }
 
-#[tactic(auto, unfolding(chv_defs::specs::Routes::ping_body))]
+#[tactic(auto, unfolding(chv_defs_api::specs::Routes::ping_body))]
 fn ping_body(alloc: Global) -> Result<Text, AllocError>
     ensures { IfOk result (λ body. body ≡ routes.ping_body) }
 {

@@ -1,9 +1,10 @@
 // The routes by their names, and the control calls that they make.
 ghost use Rattle.std.specs.Prelude.{◌≡◌, IfOk, codes};
-ghost use Rattle.chv_defs.specs.Routes as routes;
+ghost use Rattle.chv_defs_api.specs.Routes as routes;
 
 use crate::snapshot::snapshot_at;
-use chv_defs::{ControlCall, Goal, Rule};
+use chv_defs_api::{ControlCall, Goal};
+use chv_defs_base::Rule;
 use chv_json::{config_of, disk_of, resize_of, text_of, zone_of};
 use std::alloc::{AllocError, Global};
 

@@ -1,9 +1,10 @@
 // The names of snapshots, in the URLs that requests give.
 ghost use Rattle.std.specs.Prelude.{◌≡◌, IfOk};
-ghost use Rattle.chv_defs.specs.Routes as routes;
+ghost use Rattle.chv_defs_api.specs.Routes as routes;
 ghost use Rattle.chv_api.specs.Snapshots as snapshots;
 
-use chv_defs::{Name, Rule, Text, last_component};
+use chv_defs_api::last_component;
+use chv_defs_base::{Name, Rule, Text};
 use chv_json::text_of;
 use std::alloc::{AllocError, Global};
 

@@ -6,19 +6,20 @@ use Rattle.std.proofs.lemmas.Bool.Decides.{nat_tests}
 use Rattle.std.proofs.lemmas.List.{take-append-le, length_push}
 use Rattle.std.proofs.lemmas.List.Sums.{sum_by-append}
 use Rattle.std.proofs.Math.Seq.{take-append_seam}
-use Rattle.chv_defs.specs.declared.bank.BankCall.{BankCall}
-use Rattle.chv_defs.specs.declared.bank.BankCall.TheVariants as call
-use Rattle.chv_defs.specs.declared.bank.BankReply.{BankReply}
-use Rattle.chv_defs.specs.declared.bank.BankReply.TheVariants as reply
-use Rattle.chv_defs.specs.declared.bank.BankEntry.{BankEntry}
-use Rattle.chv_defs.specs.declared.bank.Refusal.TheVariants as refusal
-use Rattle.chv_defs.specs.BankState.{pins_of, has_pin, is_owner_call, is_sealed, is_frozen, most_entries, most_payload, payload, payload_of, blocks_of, says_open, says_sealed, says_frozen}
-use Rattle.chv_defs.specs.LastByte.{says_byte}
+use Rattle.chv_defs_memory.specs.declared.bank.BankCall.{BankCall}
+use Rattle.chv_defs_memory.specs.declared.bank.BankCall.TheVariants as call
+use Rattle.chv_defs_memory.specs.declared.bank.BankReply.{BankReply}
+use Rattle.chv_defs_memory.specs.declared.bank.BankReply.TheVariants as reply
+use Rattle.chv_defs_memory.specs.declared.bank.BankEntry.{BankEntry}
+use Rattle.chv_defs_memory.specs.declared.bank.Refusal.TheVariants as refusal
+use Rattle.chv_defs_memory.specs.BankState.{pins_of, has_pin, is_owner_call, is_sealed, is_frozen, payload, payload_of, blocks_of, says_open, says_sealed, says_frozen}
+use Rattle.chv_defs_base.specs.Sizes.{most_entries, most_payload}
+use Rattle.chv_defs_memory.specs.LastByte.{says_byte}
 use Rattle.chv_bank.proofs.ShownPages.{is-count}
-use Rattle.chv_defs.specs.LegalBank.{IsNext, IsLegal, OwnerMay, IfAccess, NumbersPins, IfSeal, IfOwner, IsAccess, first_sealed, access_reply}
+use Rattle.chv_defs_memory.specs.LegalBank.{IsNext, IsLegal, OwnerMay, IfAccess, NumbersPins, IfSeal, IfOwner, IsAccess, first_sealed, access_reply}
 use Rattle.chv_bank.specs.declared.state.State.{State}
 use Rattle.chv_bank.specs.declared.bank.Bank.TheInside.{Inside}
-use Rattle.chv_defs.specs.BankBook.{BankBook, with_entry, owner_reply, is_unpin, HasItsNumber, refusal_of, sealed_or_full, full, passes_limit, places_of}
+use Rattle.chv_defs_memory.specs.BankBook.{BankBook, with_entry, owner_reply, is_unpin, HasItsNumber, refusal_of, sealed_or_full, full, passes_limit, places_of}
 use Rattle.chv_bank.specs.Caches.{IsStateAfter, Steps}
 use Rattle.chv_bank.specs.CallerPins.{HoldPins, total}
 use Rattle.chv_bank.specs.Kept.{IsKept}

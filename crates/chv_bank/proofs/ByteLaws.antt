@@ -4,14 +4,14 @@ use Rattle.std.specs.Prelude.{slice_index, not, ◌&&◌, ◌==◌, unwrap_or}
 use Rattle.std.specs.List.{list_all}
 use Rattle.std.proofs.lemmas.Bool.Decides.{nat_tests}
 use Rattle.std.proofs.lemmas.List.FromFn.{get_or-map-range_with_len}
-use Rattle.chv_defs.specs.declared.bank.BankCall.{BankCall}
-use Rattle.chv_defs.specs.declared.bank.BankCall.TheVariants as call
-use Rattle.chv_defs.specs.declared.bank.BankReply.{BankReply}
-use Rattle.chv_defs.specs.declared.bank.BankReply.TheVariants as reply
-use Rattle.chv_defs.specs.declared.bank.BankEntry.{BankEntry}
-use Rattle.chv_defs.specs.BankState.{names, if_named, blocks_of, is_open, says_open}
-use Rattle.chv_defs.specs.LastByte.{last_byte, last_bytes, says_byte}
-use Rattle.chv_defs.specs.LegalBank.{IsNext, IfAccess, IsAccess, fault_or, done_reply, first_closed}
+use Rattle.chv_defs_memory.specs.declared.bank.BankCall.{BankCall}
+use Rattle.chv_defs_memory.specs.declared.bank.BankCall.TheVariants as call
+use Rattle.chv_defs_memory.specs.declared.bank.BankReply.{BankReply}
+use Rattle.chv_defs_memory.specs.declared.bank.BankReply.TheVariants as reply
+use Rattle.chv_defs_memory.specs.declared.bank.BankEntry.{BankEntry}
+use Rattle.chv_defs_memory.specs.BankState.{names, if_named, blocks_of, is_open, says_open}
+use Rattle.chv_defs_memory.specs.LastByte.{last_byte, last_bytes, says_byte}
+use Rattle.chv_defs_memory.specs.LegalBank.{IsNext, IfAccess, IsAccess, fault_or, done_reply, first_closed}
 use Rattle.chv_bank.specs.Laws.{opens, reaches, is_fault, is_close, puts, replaces, IsClosedAt, IsLastWritten, ClosedBlocksAreNotReached, OpenedBlocksAreZero, ReadsGiveTheLastWrite}
 use Rattle.chv_bank.proofs.Latest.{is_open-push, last_byte-push}
 use Rattle.chv_bank.proofs.Ranges.{none_passes}

@@ -4,17 +4,18 @@ use Rattle.std.specs.Prelude.{◌||◌, nat_lt}
 use Rattle.std.specs.Vec.{vec_capacity}
 use Rattle.std.proofs.lemmas.Bool.Decides.{nat_tests}
 use Rattle.std.proofs.lemmas.List.{length_push}
-use Rattle.chv_defs.specs.declared.bank.BankCall.{BankCall}
-use Rattle.chv_defs.specs.declared.bank.BankCall.TheVariants as call
-use Rattle.chv_defs.specs.declared.bank.BankReply.{BankReply}
-use Rattle.chv_defs.specs.declared.bank.BankReply.TheVariants as reply
-use Rattle.chv_defs.specs.declared.bank.BankEntry.{BankEntry}
-use Rattle.chv_defs.specs.PageContents.{Contents, byte_of}
-use Rattle.chv_defs.specs.BankState.{PinOut, pins_of, has_pin, is_owner_call, most_entries, most_payload, payload, payload_of}
-use Rattle.chv_defs.specs.LegalBank.{IsNext, IsLegal, OwnerMay, access_reply}
+use Rattle.chv_defs_memory.specs.declared.bank.BankCall.{BankCall}
+use Rattle.chv_defs_memory.specs.declared.bank.BankCall.TheVariants as call
+use Rattle.chv_defs_memory.specs.declared.bank.BankReply.{BankReply}
+use Rattle.chv_defs_memory.specs.declared.bank.BankReply.TheVariants as reply
+use Rattle.chv_defs_memory.specs.declared.bank.BankEntry.{BankEntry}
+use Rattle.chv_defs_memory.specs.PageContents.{Contents, byte_of}
+use Rattle.chv_defs_memory.specs.BankState.{PinOut, pins_of, has_pin, is_owner_call, payload, payload_of}
+use Rattle.chv_defs_base.specs.Sizes.{most_entries, most_payload}
+use Rattle.chv_defs_memory.specs.LegalBank.{IsNext, IsLegal, OwnerMay, access_reply}
 use Rattle.chv_bank.specs.declared.state.State.{State}
 use Rattle.chv_bank.specs.declared.bank.Bank.TheInside.{Inside}
-use Rattle.chv_defs.specs.BankBook.{BankBook, with_entry, owner_reply, is_unpin, pages_used, HasItsNumber, refusal_of, passes_limit, places_of, entries_taken, bytes_taken}
+use Rattle.chv_defs_memory.specs.BankBook.{BankBook, with_entry, owner_reply, is_unpin, pages_used, HasItsNumber, refusal_of, passes_limit, places_of, entries_taken, bytes_taken}
 use Rattle.chv_bank.specs.Caches.{IsStateAfter, Steps, pins_after}
 use Rattle.chv_bank.specs.CallerPins.{HoldPins, total}
 use Rattle.chv_bank.specs.Kept.{IsKept}

@@ -1,9 +1,9 @@
 -- The latest entry that decides, where one more entry is appended.
 use Rattle.std.proofs.Common.{◌≡◌, ℕ, false, List, [], ◌∷◌, ◌++◌, Option, None, Some, refl, sym, ◌∙◌, ap}
 use Rattle.std.specs.Prelude.{unwrap_or}
-use Rattle.chv_defs.specs.declared.bank.BankEntry.{BankEntry}
-use Rattle.chv_defs.specs.BankState.{later, latest, says_open, says_sealed, says_frozen, is_open, is_sealed, is_frozen}
-use Rattle.chv_defs.specs.LastByte.{last_byte, says_byte}
+use Rattle.chv_defs_memory.specs.declared.bank.BankEntry.{BankEntry}
+use Rattle.chv_defs_memory.specs.BankState.{later, latest, says_open, says_sealed, says_frozen, is_open, is_sealed, is_frozen}
+use Rattle.chv_defs_memory.specs.LastByte.{last_byte, says_byte}
 
 later-none : {A : Type 0} (o : Option A) → later None o ≡ o
 later-none None = refl

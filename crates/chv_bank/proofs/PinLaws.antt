@@ -4,13 +4,13 @@ use Rattle.std.specs.Prelude.{not, ◌&&◌, ◌||◌, filter, find, cond, unwra
 use Rattle.std.specs.List.{list_all, list_any}
 use Rattle.std.specs.Option.{option_to_list}
 use Rattle.std.proofs.lemmas.List.Folds.{list_any-append}
-use Rattle.chv_defs.specs.declared.bank.BankCall.{BankCall}
-use Rattle.chv_defs.specs.declared.bank.BankCall.TheVariants as call
-use Rattle.chv_defs.specs.declared.bank.BankReply.{BankReply}
-use Rattle.chv_defs.specs.declared.bank.BankReply.TheVariants as reply
-use Rattle.chv_defs.specs.declared.bank.BankEntry.{BankEntry}
-use Rattle.chv_defs.specs.BankState.{PinOut, pins_of, pin_made, gives_back, names, pins_block, if_named, blocks_in, lowest_pinned, is_open, is_sealed, says_open, says_sealed}
-use Rattle.chv_defs.specs.LegalBank.{IsNext, IsLegal, OwnerMay, IfSeal, fault_or, busy_or_sealed}
+use Rattle.chv_defs_memory.specs.declared.bank.BankCall.{BankCall}
+use Rattle.chv_defs_memory.specs.declared.bank.BankCall.TheVariants as call
+use Rattle.chv_defs_memory.specs.declared.bank.BankReply.{BankReply}
+use Rattle.chv_defs_memory.specs.declared.bank.BankReply.TheVariants as reply
+use Rattle.chv_defs_memory.specs.declared.bank.BankEntry.{BankEntry}
+use Rattle.chv_defs_memory.specs.BankState.{PinOut, pins_of, pin_made, gives_back, names, pins_block, if_named, blocks_in, lowest_pinned, is_open, is_sealed, says_open, says_sealed}
+use Rattle.chv_defs_memory.specs.LegalBank.{IsNext, IsLegal, OwnerMay, IfSeal, fault_or, busy_or_sealed}
 use Rattle.chv_bank.specs.Laws.{IsHeldAt, overturns, PinnedBlocksStayOpen, PinnedBankIsLeft}
 use Rattle.chv_bank.proofs.Latest.{is_open-push, is_sealed-push}
 use Rattle.chv_bank.proofs.PinLists.{kept_by, pins_of-append}

@@ -2,8 +2,8 @@
 use Rattle.std.proofs.Common.{◌≡◌, ℕ, ◌+◌, ◌-◌, ◌<◌, ◌≤◌, Bool, true, false, List, [], ◌∷◌, None, Some, refl, ◌∙◌, ap, arith, suc, zero}
 use Rattle.std.specs.Prelude.{cond, not, ◌&&◌, if◌then◌else◌, filter, find}
 use Rattle.std.specs.List.{range_with_len, list_all}
-use Rattle.chv_defs.specs.declared.bank.Span.{Span}
-use Rattle.chv_defs.specs.BankState.{belongs, blocks_in}
+use Rattle.chv_defs_memory.specs.declared.bank.Span.{Span}
+use Rattle.chv_defs_memory.specs.BankState.{belongs, blocks_in}
 
 -- the bank's blocks from one on and below another
 abbrev pub blocks_between : ℕ → ℕ → ℕ → List ℕ

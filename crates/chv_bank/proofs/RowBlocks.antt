@@ -4,7 +4,7 @@ use Rattle.std.specs.Prelude.{cond, ◌==◌, ◌||◌, filter, find, map, min, 
 use Rattle.std.specs.List.{list_any}
 use Rattle.std.specs.Option.{option_map}
 use Rattle.std.proofs.lemmas.Bool.Decides.{nat_tests}
-use Rattle.chv_defs.specs.BankState.{PinOut, pins_block, lesser, lowest, lowest_pinned, lowest_pinner}
+use Rattle.chv_defs_memory.specs.BankState.{PinOut, pins_block, lesser, lowest, lowest_pinned, lowest_pinner}
 use Rattle.chv_bank.specs.CallerPins.{CallerPins, AreRows, HoldPins, pins_by, has_pinned, first_pinner}
 
 -- the pins of a caller

@@ -7,7 +7,7 @@ use Rattle.std.proofs.lemmas.List.{append-nil, length_push}
 use Rattle.std.proofs.lemmas.List.Sorted.{IsNonDecreasingBy-from_all_adjacent}
 use Rattle.std.proofs.lemmas.List.Elements.{filter-append}
 use Rattle.std.proofs.lemmas.Bool.Decides.{nat_tests}
-use Rattle.chv_defs.specs.BankState.{PinOut}
+use Rattle.chv_defs_memory.specs.BankState.{PinOut}
 use Rattle.chv_bank.specs.CallerPins.{CallerPins, AreRows, HoldPins, pins_by, total, is_row_of, with_pin, is_other, without_pin}
 
 -- ---- rows ascend

@@ -3,8 +3,8 @@ use Rattle.std.proofs.Common.{◌≡◌, ℕ, ◌<◌, Bool, true, false, refl, 
 use Rattle.std.specs.Prelude.{not, ◌==◌, ◌||◌, ◌&&◌, nat_lt}
 use Rattle.std.proofs.lemmas.List.FromFn.{get_or-map-range_with_len, length-map-range_with_len}
 use Rattle.std.proofs.lemmas.Bool.Decides.{nat_tests}
-use Rattle.chv_defs.specs.declared.bank.Span.{Span}
-use Rattle.chv_defs.specs.BlockSets.{Blocks, has, numbers_where, is_within, with_span, without_span}
+use Rattle.chv_defs_memory.specs.declared.bank.Span.{Span}
+use Rattle.chv_defs_memory.specs.BlockSets.{Blocks, has, numbers_where, is_within, with_span, without_span}
 
 pub has-numbers_where : (size : ℕ) (p : ℕ → Bool) (k : ℕ) → k < size → has (numbers_where size p) k ≡ p k
 has-numbers_where size p k h = get_or-map-range_with_len p 0 size k k false h (zero-add k)

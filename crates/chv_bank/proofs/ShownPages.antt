@@ -2,13 +2,13 @@
 use Rattle.std.proofs.Common.{◌≡◌, ℕ, ◌+◌, ◌*◌, ◌/◌, ◌%◌, ◌<◌, ◌≤◌, List, ◌∷◌, Option, None, Some, refl, ◌∙◌, ap, arith, suc, zero, length}
 use Rattle.std.specs.Prelude.{cond, map}
 use Rattle.std.specs.List.{range_with_len, filter_map, cons_option}
-use Rattle.chv_defs.specs.declared.bank.PageAt.{PageAt}
-use Rattle.chv_defs.specs.declared.bank.BankEntry.{BankEntry}
-use Rattle.chv_defs.specs.BankState.{most_blocks}
-use Rattle.chv_defs.specs.LastByte.{last_byte}
-use Rattle.chv_defs.specs.LegalBank.{page_count}
-use Rattle.chv_defs.specs.BankBook.{pages_shown, pages_counted}
-use Rattle.chv_defs.specs.PageContents.{Contents, byte_at, page_bytes, page_numbered, is_blank, pages_of, AreExact}
+use Rattle.chv_defs_memory.specs.declared.bank.PageAt.{PageAt}
+use Rattle.chv_defs_memory.specs.declared.bank.BankEntry.{BankEntry}
+use Rattle.chv_defs_memory.specs.BankState.{most_blocks}
+use Rattle.chv_defs_memory.specs.LastByte.{last_byte}
+use Rattle.chv_defs_memory.specs.LegalBank.{page_count}
+use Rattle.chv_defs_memory.specs.BankBook.{pages_shown, pages_counted}
+use Rattle.chv_defs_memory.specs.PageContents.{Contents, byte_at, page_bytes, page_numbered, is_blank, pages_of, AreExact}
 
 -- bytes read by two readings that agree
 pub map_same : {A : Type 0} (f g : ℕ → A) (low n : ℕ) → ((k : ℕ) → f k ≡ g k) → map f (range_with_len low n) ≡ map g (range_with_len low n)

@@ -2,7 +2,7 @@
 use Rattle.std.proofs.Common.{◌≡◌, ℕ, ◌+◌, ◌≤◌, Bool, true, false, refl, sym, ◌∙◌, ap, subst, arith}
 use Rattle.std.specs.Prelude.{◌==◌, ◌&&◌, nat_lt, nat_le, unwrap_or}
 use Rattle.std.proofs.lemmas.Bool.Decides.{nat_tests}
-use Rattle.chv_defs.specs.BankState.{belongs, if_named}
+use Rattle.chv_defs_memory.specs.BankState.{belongs, if_named}
 use Rattle.chv_bank.proofs.Sets.{bool_eq, and_false}
 
 -- whether a block is one of the bank's from one on and below another

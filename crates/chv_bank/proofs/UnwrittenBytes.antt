@@ -2,14 +2,14 @@
 use Rattle.std.proofs.Common.{◌≡◌, ℕ, ◌+◌, ◌<◌, ◌≤◌, Bool, true, false, List, None, refl, ◌∙◌, ap, arith, length, take, add-one}
 use Rattle.std.specs.Prelude.{slice_index, unwrap_or}
 use Rattle.std.proofs.lemmas.List.FromFn.{get_or-map-range_with_len}
-use Rattle.chv_defs.specs.declared.bank.BankCall.{BankCall}
-use Rattle.chv_defs.specs.declared.bank.BankCall.TheVariants as call
-use Rattle.chv_defs.specs.declared.bank.BankReply.{BankReply}
-use Rattle.chv_defs.specs.declared.bank.BankReply.TheVariants as reply
-use Rattle.chv_defs.specs.declared.bank.BankEntry.{BankEntry}
-use Rattle.chv_defs.specs.BankState.{names, if_named}
-use Rattle.chv_defs.specs.LastByte.{last_byte, last_bytes, says_byte}
-use Rattle.chv_defs.specs.LegalBank.{IsNext, first_closed}
+use Rattle.chv_defs_memory.specs.declared.bank.BankCall.{BankCall}
+use Rattle.chv_defs_memory.specs.declared.bank.BankCall.TheVariants as call
+use Rattle.chv_defs_memory.specs.declared.bank.BankReply.{BankReply}
+use Rattle.chv_defs_memory.specs.declared.bank.BankReply.TheVariants as reply
+use Rattle.chv_defs_memory.specs.declared.bank.BankEntry.{BankEntry}
+use Rattle.chv_defs_memory.specs.BankState.{names, if_named}
+use Rattle.chv_defs_memory.specs.LastByte.{last_byte, last_bytes, says_byte}
+use Rattle.chv_defs_memory.specs.LegalBank.{IsNext, first_closed}
 use Rattle.chv_bank.specs.Laws.{puts, IsUnwritten, UnwrittenBytesAreZero}
 use Rattle.chv_bank.proofs.ByteLaws.{opened_zero, got_bytes}
 use Rattle.chv_bank.proofs.Latest.{last_byte-push}

@@ -4,9 +4,9 @@ use Rattle.std.specs.Prelude.{slice_get, not, ◌&&◌, nat_lt, nat_le, filter, 
 use Rattle.std.specs.List.{list_all, range_with_len}
 use Rattle.std.proofs.lemmas.Bool.{cases_lt}
 use Rattle.std.proofs.lemmas.Bool.Decides.{nat_tests}
-use Rattle.chv_defs.specs.declared.bank.BankEntry.{BankEntry}
-use Rattle.chv_defs.specs.declared.bank.Span.{Span}
-use Rattle.chv_defs.specs.BankState.{belongs, names, blocks_in}
+use Rattle.chv_defs_memory.specs.declared.bank.BankEntry.{BankEntry}
+use Rattle.chv_defs_memory.specs.declared.bank.Span.{Span}
+use Rattle.chv_defs_memory.specs.BankState.{belongs, names, blocks_in}
 
 -- the entry at a place
 pub entry_at : (h : List BankEntry) (m : ℕ) → m < length h → (e : BankEntry) × (slice_get h m ≡ Some e)

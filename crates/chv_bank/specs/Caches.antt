@@ -1,14 +1,14 @@
 -- What the code keeps beside a bank's history, and how it follows the history.
 use Rattle.std.specs.Prelude.{◌≡◌, ℕ, ◌<◌, List, [], ◌∷◌, ◌++◌, length, filter, unwrap_or}
-use Rattle.chv_defs.specs.declared.bank.BankCall.{BankCall}
-use Rattle.chv_defs.specs.declared.bank.BankCall.TheVariants as call
-use Rattle.chv_defs.specs.declared.bank.BankReply.{BankReply}
-use Rattle.chv_defs.specs.declared.bank.BankReply.TheVariants as reply
-use Rattle.chv_defs.specs.declared.bank.BankEntry.{BankEntry}
-use Rattle.chv_defs.specs.BlockSets.{has}
-use Rattle.chv_defs.specs.PageContents.{byte_at}
-use Rattle.chv_defs.specs.BankState.{PinOut, pins_of, is_open, is_sealed, is_frozen, most_blocks, says_open, says_sealed, says_frozen}
-use Rattle.chv_defs.specs.LastByte.{last_byte, says_byte}
+use Rattle.chv_defs_memory.specs.declared.bank.BankCall.{BankCall}
+use Rattle.chv_defs_memory.specs.declared.bank.BankCall.TheVariants as call
+use Rattle.chv_defs_memory.specs.declared.bank.BankReply.{BankReply}
+use Rattle.chv_defs_memory.specs.declared.bank.BankReply.TheVariants as reply
+use Rattle.chv_defs_memory.specs.declared.bank.BankEntry.{BankEntry}
+use Rattle.chv_defs_memory.specs.BlockSets.{has}
+use Rattle.chv_defs_memory.specs.PageContents.{byte_at}
+use Rattle.chv_defs_memory.specs.BankState.{PinOut, pins_of, is_open, is_sealed, is_frozen, most_blocks, says_open, says_sealed, says_frozen}
+use Rattle.chv_defs_memory.specs.LastByte.{last_byte, says_byte}
 use Rattle.chv_bank.specs.CallerPins.{HoldPins, is_other}
 use Rattle.chv_bank.specs.declared.state.State.{State}
 

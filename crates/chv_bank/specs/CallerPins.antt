@@ -2,7 +2,7 @@
 use Rattle.std.specs.Prelude.{◌≡◌, ℕ, ◌+◌, ◌≤◌, ◌==◌, ◌&&◌, Bool, false, not, nat_lt, if◌then◌else◌, List, [], ◌∷◌, ◌++◌, length, filter, find, slice_get, unwrap_or}
 use Rattle.std.specs.List.{list_any}
 use Rattle.std.specs.Option.{option_map, option_map_or}
-use Rattle.chv_defs.specs.BankState.{PinOut, pins_block}
+use Rattle.chv_defs_memory.specs.BankState.{PinOut, pins_block}
 
 -- a caller, and its outstanding pins in the order in which they were made
 pub record CallerPins : Type 0 where

@@ -1,8 +1,9 @@
 -- What the type of a bank keeps.
 use Rattle.std.specs.Prelude.{◌≡◌, ◌<◌, ◌≤◌, ◌+◌, ◌*◌, length}
 use Rattle.std.specs.Vec.{vec_capacity}
-use Rattle.chv_defs.specs.BankState.{banks, most_entries, most_payload, payload}
-use Rattle.chv_defs.specs.LegalBank.{IsLegal}
+use Rattle.chv_defs_memory.specs.BankState.{banks, payload}
+use Rattle.chv_defs_base.specs.Sizes.{most_entries, most_payload}
+use Rattle.chv_defs_memory.specs.LegalBank.{IsLegal}
 use Rattle.chv_bank.specs.declared.bank.Bank.TheInside.{Inside}
 use Rattle.chv_bank.specs.Caches.{IsStateAfter}
 use Rattle.chv_bank.specs.CallerPins.{total}

@@ -1,15 +1,15 @@
 -- Laws of legal bank histories, over whole histories. Places are counted from 0; what holds at a place is what the
 -- entries before it say.
 use Rattle.std.specs.Prelude.{◌≡◌, ◌<◌, ◌≤◌, ℕ, ◌+◌, ◌-◌, ◌*◌, ◌==◌, ◌&&◌, Bool, true, false, nat_lt, slice_get, slice_index, take, List, length, Option, None, Some}
-use Rattle.chv_defs.specs.declared.bank.BankCall.{BankCall}
-use Rattle.chv_defs.specs.declared.bank.BankCall.TheVariants as call
-use Rattle.chv_defs.specs.declared.bank.BankReply.{BankReply}
-use Rattle.chv_defs.specs.declared.bank.BankReply.TheVariants as reply
-use Rattle.chv_defs.specs.declared.bank.BankEntry.{BankEntry}
-use Rattle.chv_defs.specs.PageContents.{is_inside}
-use Rattle.chv_defs.specs.BankState.{PinOut, names, if_named, gives_back, is_open, is_sealed}
-use Rattle.chv_defs.specs.LastByte.{last_byte}
-use Rattle.chv_defs.specs.LegalBank.{IsLegal}
+use Rattle.chv_defs_memory.specs.declared.bank.BankCall.{BankCall}
+use Rattle.chv_defs_memory.specs.declared.bank.BankCall.TheVariants as call
+use Rattle.chv_defs_memory.specs.declared.bank.BankReply.{BankReply}
+use Rattle.chv_defs_memory.specs.declared.bank.BankReply.TheVariants as reply
+use Rattle.chv_defs_memory.specs.declared.bank.BankEntry.{BankEntry}
+use Rattle.chv_defs_memory.specs.PageContents.{is_inside}
+use Rattle.chv_defs_memory.specs.BankState.{PinOut, names, if_named, gives_back, is_open, is_sealed}
+use Rattle.chv_defs_memory.specs.LastByte.{last_byte}
+use Rattle.chv_defs_memory.specs.LegalBank.{IsLegal}
 
 -- ---- pins
 

@@ -1,19 +1,20 @@
 // Accesses: Read, Write, Pin and Unpin.
 ghost use Rattle.std.specs.Prelude.{◌≡◌, ◌+◌, ◌<◌, ◌≤◌, ◌^◌, ℕ, List, false, IfOk, OnOk, OnErr, length};
-ghost use Rattle.chv_defs.specs.declared.bank.BankCall.TheVariants as call;
-ghost use Rattle.chv_defs.specs.declared.bank.BankReply.TheVariants as reply;
-ghost use Rattle.chv_defs.specs.declared.bank.BankEntry.{BankEntry};
-ghost use Rattle.chv_defs.specs.BankState.{blocks_in, blocks_of, is_owner_call, payload_of, IsCall, IsInBlock, IsInZone};
-ghost use Rattle.chv_defs.specs.LastByte.{last_bytes};
-ghost use Rattle.chv_defs.specs.LegalBank.{access_reply, done_reply, first_closed, first_sealed};
-ghost use Rattle.chv_defs.specs.BankBook.{is_unpin, places_of};
+ghost use Rattle.chv_defs_memory.specs.declared.bank.BankCall.TheVariants as call;
+ghost use Rattle.chv_defs_memory.specs.declared.bank.BankReply.TheVariants as reply;
+ghost use Rattle.chv_defs_memory.specs.declared.bank.BankEntry.{BankEntry};
+ghost use Rattle.chv_defs_memory.specs.BankState.{blocks_in, blocks_of, is_owner_call, payload_of, IsCall, IsInBlock, IsInZone};
+ghost use Rattle.chv_defs_memory.specs.LastByte.{last_bytes};
+ghost use Rattle.chv_defs_memory.specs.LegalBank.{access_reply, done_reply, first_closed, first_sealed};
+ghost use Rattle.chv_defs_memory.specs.BankBook.{is_unpin, places_of};
 ghost use Rattle.chv_bank.specs.Caches.{IsFormed, IsStateAfter, Steps};
 ghost use Rattle.chv_bank.specs.CallerPins.{total};
 
 use crate::blocks::{first_in, first_not_in};
 use crate::state::State;
 use crate::steps::{pin, write};
-use chv_defs::{BankCall, BankReply, Bytes, Span};
+use chv_defs_base::Bytes;
+use chv_defs_memory::{BankCall, BankReply, Span};
 use std::alloc::{AllocError, Global};
 
 // The blocks that an access names, as a span.

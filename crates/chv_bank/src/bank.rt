@@ -1,10 +1,10 @@
 // The bank.
 ghost use Rattle.std.specs.Prelude.{◌≡◌, ◌+◌, ◌-◌, ◌<◌, ◌≤◌, ◌^◌, List, [], ◌∷◌, ◌++◌, true, false, None, Some, min, IfOk, IfErr, IsOk, OnOk, OnErr, MatchResult, length};
-ghost use Rattle.chv_defs.specs.BankState.{banks, is_owner_call, IsCall};
-ghost use Rattle.chv_defs.specs.LegalBank.{access_reply, IsLegal, OwnerMay};
-ghost use Rattle.chv_defs.specs.declared.bank.BankCall.TheVariants as call;
-ghost use Rattle.chv_defs.specs.declared.bank.BankReply.TheVariants as reply;
-ghost use Rattle.chv_defs.specs.declared.bank.Refusal.{Refusal};
+ghost use Rattle.chv_defs_memory.specs.BankState.{banks, is_owner_call, IsCall};
+ghost use Rattle.chv_defs_memory.specs.LegalBank.{access_reply, IsLegal, OwnerMay};
+ghost use Rattle.chv_defs_memory.specs.declared.bank.BankCall.TheVariants as call;
+ghost use Rattle.chv_defs_memory.specs.declared.bank.BankReply.TheVariants as reply;
+ghost use Rattle.chv_defs_memory.specs.declared.bank.Refusal.{Refusal};
 
 use crate::access::{find_sealed, leave, reply_to};
 use crate::entries::{
@@ -14,10 +14,8 @@ use crate::owner::serve_owner;
 use crate::sheets::Sheets;
 use crate::state::State;
 use crate::steps::unpin;
-use chv_defs::{
-    BankCall, BankEntry, BankReply, BookId, Full, MOST_ENTRIES, MOST_PAYLOAD, PAGE_BYTES, PageAt,
-    Refusal, Row,
-};
+use chv_defs_base::{BookId, Full, MOST_ENTRIES, MOST_PAYLOAD, PAGE_BYTES, Row};
+use chv_defs_memory::{BankCall, BankEntry, BankReply, PageAt, Refusal};
 use std::alloc::{AllocError, Global};
 use std::marker::Model;
 
@@ -40,7 +38,7 @@ pub struct Bank {
 }
 
 impl Model for Bank {
-    ghost use Rattle.chv_defs.specs.BankBook.{BankBook};
+    ghost use Rattle.chv_defs_memory.specs.BankBook.{BankBook};
 
     ghost Value = { BankBook };
 
@@ -52,7 +50,7 @@ impl Model for Bank {
 }
 
 impl Bank {
-    ghost use Rattle.chv_defs.specs.BankBook.{bytes_taken, entries_taken, fresh, full, is_unpin, owner_reply, pages_shown, pages_used, passes_limit, refusal_of, refused_or, room_refusal, with_entry, HasItsNumber};
+    ghost use Rattle.chv_defs_memory.specs.BankBook.{bytes_taken, entries_taken, fresh, full, is_unpin, owner_reply, pages_shown, pages_used, passes_limit, refusal_of, refused_or, room_refusal, with_entry, HasItsNumber};
 
     /// A bank to which nothing happened yet.
     pub fn new(alloc: Global, zone: u8, bank: u8) -> Result<Bank, AllocError>

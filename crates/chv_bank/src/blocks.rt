@@ -1,14 +1,14 @@
 // The blocks of a bank in sets, and the search for the first one of a span.
 ghost use Rattle.std.specs.Prelude.{◌≡◌, ℕ, ◌<◌, ◌≤◌, ◌+◌, ◌==◌, not, nat_lt, false, if◌then◌else◌, length, find, unwrap_or};
 ghost use Rattle.std.specs.List.{list_any};
-ghost use Rattle.chv_defs.specs.BankState.{belongs, blocks_in, if_named, most_blocks, names, IsInZone};
-ghost use Rattle.chv_defs.specs.BlockSets.{has};
-ghost use Rattle.chv_defs.specs.PageContents.{byte_at};
+ghost use Rattle.chv_defs_memory.specs.BankState.{belongs, blocks_in, if_named, most_blocks, names, IsInZone};
+ghost use Rattle.chv_defs_memory.specs.BlockSets.{has};
+ghost use Rattle.chv_defs_memory.specs.PageContents.{byte_at};
 ghost use Rattle.chv_bank.specs.CallerPins.{has_pinned};
 
 use crate::pins::Pins;
 use crate::state::MOST_BLOCKS;
-use chv_defs::{BANKS, Span};
+use chv_defs_memory::{BANKS, Span};
 use chv_pages::Pages;
 use chv_set::BlockSet;
 

@@ -1,11 +1,11 @@
 // Copies of calls and replies, as entries keep them.
 ghost use Rattle.std.specs.Prelude.{◌≡◌, ◌+◌, ◌<◌, ◌≤◌, true, IfOk, length};
-ghost use Rattle.chv_defs.specs.BankState.{is_owner_call, payload_of};
-ghost use Rattle.chv_defs.specs.BankBook.{pages_used, places_of};
+ghost use Rattle.chv_defs_memory.specs.BankState.{is_owner_call, payload_of};
+ghost use Rattle.chv_defs_memory.specs.BankBook.{pages_used, places_of};
 ghost use Rattle.chv_bank.specs.Carried.{HasNoBytes, HasWholePage};
 
 use crate::sheets::Sheets;
-use chv_defs::{BankCall, BankReply};
+use chv_defs_memory::{BankCall, BankReply};
 use std::alloc::AllocError;
 
 /// A copy of a call.

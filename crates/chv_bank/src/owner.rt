@@ -1,17 +1,17 @@
 // The owner's calls.
 ghost use Rattle.std.specs.Prelude.{◌≡◌, ◌+◌, ◌<◌, ◌≤◌, List, true, length};
-ghost use Rattle.chv_defs.specs.declared.bank.BankCall.TheVariants as call;
-ghost use Rattle.chv_defs.specs.declared.bank.BankEntry.{BankEntry};
-ghost use Rattle.chv_defs.specs.BankState.{is_owner_call, most_blocks, IsCall, IsInZone};
-ghost use Rattle.chv_defs.specs.LegalBank.{seal_reply};
-ghost use Rattle.chv_defs.specs.BankBook.{owner_reply, pages_counted, pages_used};
+ghost use Rattle.chv_defs_memory.specs.declared.bank.BankCall.TheVariants as call;
+ghost use Rattle.chv_defs_memory.specs.declared.bank.BankEntry.{BankEntry};
+ghost use Rattle.chv_defs_memory.specs.BankState.{is_owner_call, most_blocks, IsCall, IsInZone};
+ghost use Rattle.chv_defs_memory.specs.LegalBank.{seal_reply};
+ghost use Rattle.chv_defs_memory.specs.BankBook.{owner_reply, pages_counted, pages_used};
 ghost use Rattle.chv_bank.specs.Carried.{HasWholePage};
 ghost use Rattle.chv_bank.specs.Caches.{IsFormed, IsStateAfter, Steps};
 
 use crate::blocks::first_pinned;
 use crate::state::State;
 use crate::steps::{close, fill, open, seal, shape, unseal, wipe};
-use chv_defs::{BankCall, BankReply, Span};
+use chv_defs_memory::{BankCall, BankReply, Span};
 
 /// Makes a call of the owner, whose condition holds, and answers it.
 pub fn serve_owner(state: &mut State, bank: u8, call: &BankCall) -> BankReply

@@ -2,11 +2,11 @@
 ghost use Rattle.std.specs.Prelude.{◌≡◌, ◌+◌, ◌<◌, ◌≤◌, ◌^◌, ◌==◌, ◌&&◌, [], ◌++◌, ◌∷◌, not, length, find, filter, nat_lt, IfOk, OnOk, OnErr, vec_len};
 ghost use Rattle.std.specs.List.{list_any, prefix_len};
 ghost use Rattle.std.specs.Option.{option_map};
-ghost use Rattle.chv_defs.specs.BankState.{pins_block, PinOut};
+ghost use Rattle.chv_defs_memory.specs.BankState.{pins_block, PinOut};
 ghost use Rattle.chv_bank.specs.CallerPins.{first_pinner, has_pinned, is_other, is_row_of, total, with_pin, without_pin, AreRows, CallerPins};
 
 use crate::blocks::belongs;
-use chv_defs::Span;
+use chv_defs_memory::Span;
 use std::alloc::{AllocError, Global};
 use std::marker::Model;
 
@@ -19,7 +19,7 @@ pub struct Pinned {
 }
 
 impl Model for Pinned {
-    ghost use Rattle.chv_defs.specs.BankState.{PinOut};
+    ghost use Rattle.chv_defs_memory.specs.BankState.{PinOut};
 
     ghost Value = { PinOut };
 

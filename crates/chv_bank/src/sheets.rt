@@ -2,7 +2,7 @@
 ghost use Rattle.std.specs.Prelude.{◌≡◌, ◌+◌, ◌<◌, ◌≤◌, IfOk, length, vec_len};
 ghost use Rattle.std.specs.Vec.{vec_capacity};
 
-use chv_defs::{Bytes, PAGE_BYTES};
+use chv_defs_base::{Bytes, PAGE_BYTES};
 use std::alloc::{AllocError, Global};
 use std::marker::Model;
 

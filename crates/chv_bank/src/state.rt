@@ -1,6 +1,6 @@
 // What a bank keeps beside its history.
 ghost use Rattle.std.specs.Prelude.{◌≡◌, ◌<◌, ◌^◌, ℕ, [], false, length, IfOk};
-ghost use Rattle.chv_defs.specs.BlockSets.{has};
+ghost use Rattle.chv_defs_memory.specs.BlockSets.{has};
 
 use crate::pins::Pins;
 use chv_pages::Pages;

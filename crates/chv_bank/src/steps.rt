@@ -1,14 +1,14 @@
 // What each entry does to what is kept beside the history.
 ghost use Rattle.std.specs.Prelude.{◌≡◌, ◌+◌, ◌<◌, ◌≤◌, ◌^◌, OnOk, OnErr, length};
-ghost use Rattle.chv_defs.specs.declared.bank.BankCall.TheVariants as call;
-ghost use Rattle.chv_defs.specs.declared.bank.BankReply.TheVariants as reply;
-ghost use Rattle.chv_defs.specs.BankState.{most_blocks, IsCall, IsInBlock, IsInZone};
+ghost use Rattle.chv_defs_memory.specs.declared.bank.BankCall.TheVariants as call;
+ghost use Rattle.chv_defs_memory.specs.declared.bank.BankReply.TheVariants as reply;
+ghost use Rattle.chv_defs_memory.specs.BankState.{most_blocks, IsCall, IsInBlock, IsInZone};
 ghost use Rattle.chv_bank.specs.Caches.{IsFormed, Steps};
 ghost use Rattle.chv_bank.specs.CallerPins.{total};
 
 use crate::blocks::{clear_blocks, put_below, put_blocks};
 use crate::state::State;
-use chv_defs::Span;
+use chv_defs_memory::Span;
 use std::alloc::AllocError;
 
 /// Shape: the blocks below a number are open, none is sealed, every byte is 0.

@@ -1,6 +1,6 @@
 // What answers show. Large values are dropped in generic functions, where it is one step for the check.
 use crate::escapes::shown;
-use chv_defs::{Bytes, Rule, Text};
+use chv_defs_base::{Bytes, Rule, Text};
 use std::alloc::{AllocError, Global};
 use std::io;
 

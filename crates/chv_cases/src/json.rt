@@ -2,10 +2,10 @@
 use crate::answers::{Shown, allocated, allowed, answer, written};
 use crate::escapes::bytes_of;
 use crate::words::{cut, found, number};
-use chv_defs::{
-    CountOf, DeviceInfo, DiskConfig, DiskCount, Info, Row, ShownState, Text, VmConfig, ZoneInfo,
-    beside,
+use chv_defs_api::{
+    CountOf, DeviceInfo, DiskConfig, DiskCount, Info, ShownState, VmConfig, ZoneInfo,
 };
+use chv_defs_base::{Row, Text, beside};
 use chv_json::{
     config_of, config_text, counters_text, device_text, disk_of, disk_text, info_text, text_of,
 };

@@ -1,7 +1,8 @@
 // Scenarios (`chv_scene`).
 use crate::answers::{Shown, answer};
 use crate::escapes::shown;
-use chv_defs::{Asked, Row, Scene};
+use chv_defs_base::Row;
+use chv_defs_scene::{Asked, Scene};
 use chv_scene::{SceneFault, read};
 use std::alloc::{AllocError, Global};
 

@@ -2,7 +2,8 @@
 use crate::answers::allocated;
 use crate::escapes::{bytes_of, shown};
 use crate::words::{cut, found};
-use chv_defs::{Request, Took, beside};
+use chv_defs_api::{Request, Took};
+use chv_defs_base::beside;
 use chv_http::Parser;
 use std::alloc::{AllocError, Global};
 use std::io;

@@ -7,7 +7,7 @@ use Rattle.std.specs.Fmt.{decimal}
 use Rattle.std.proofs.lemmas.Fmt.{decimal_injective}
 use Rattle.std.proofs.lemmas.Slice.Eq.{bytes_eq-Decides}
 use Rattle.std.proofs.lemmas.Bool.{false_from_ne_true, cases_order, cases_lt}
-use Rattle.chv_defs.specs.ConfigRules.{has_text, is_free, lowest_free, default_id}
+use Rattle.chv_defs_api.specs.ConfigRules.{has_text, is_free, lowest_free, default_id}
 use Rattle.chv_config.proofs.Firsts.{find-range, IsFirstPassing}
 
 -- where the numbers below k are used and k is free, the lowest free number is k

@@ -5,8 +5,8 @@ use Rattle.std.specs.List.{list_any, list_all, cons_option}
 use Rattle.std.specs.Str.{bytes_eq}
 use Rattle.std.proofs.lemmas.Bool.{and_from, and_parts}
 use Rattle.std.proofs.lemmas.List.Folds.{list_any-append}
-use Rattle.chv_defs.specs.declared.config.DiskConfig.{DiskConfig}
-use Rattle.chv_defs.specs.ConfigRules.{disk_name, given_ids, has_text, has_twice}
+use Rattle.chv_defs_api.specs.declared.config.DiskConfig.{DiskConfig}
+use Rattle.chv_defs_api.specs.ConfigRules.{disk_name, given_ids, has_text, has_twice}
 use Rattle.chv_config.proofs.Kept.{or_false_both, or_false_parts}
 
 -- what holds of no disk holds of none that is left

@@ -3,8 +3,8 @@ use Rattle.std.proofs.Common.{◌≡◌, ℕ, ◌+◌, ◌<◌, ◌≤◌, Bool,
 use Rattle.std.specs.Prelude.{find, cond, MatchOption}
 use Rattle.std.specs.List.{range_with_len}
 use Rattle.std.proofs.lemmas.Bool.{cases_order}
-use Rattle.chv_defs.specs.declared.rule.Rule.{Rule}
-use Rattle.chv_defs.specs.ConfigRules.{first_broken}
+use Rattle.chv_defs_base.specs.declared.rule.Rule.{Rule}
+use Rattle.chv_defs_api.specs.ConfigRules.{first_broken}
 
 -- a rule broken in the first rows is the answer
 pub first_broken-some : (xs ys : List (Bool × Rule)) (rule : Rule) → first_broken xs ≡ Some rule → first_broken (xs ++ ys) ≡ Some rule

@@ -9,9 +9,9 @@ use Rattle.std.proofs.lemmas.Bool.{and_from}
 use Rattle.std.proofs.lemmas.Bool.Decides.{nat_tests}
 use Rattle.std.proofs.lemmas.List.{length-append}
 use Rattle.std.proofs.lemmas.List.Folds.{list_all-append}
-use Rattle.chv_defs.specs.Id.{is_id, is_id_byte}
-use Rattle.chv_defs.specs.declared.config.DiskConfig.{DiskConfig}
-use Rattle.chv_defs.specs.ConfigRules.{default_id, has_bad_id, id_beside, is_free, lowest_free, with_id, with_ids}
+use Rattle.chv_defs_base.specs.Id.{is_id, is_id_byte}
+use Rattle.chv_defs_api.specs.declared.config.DiskConfig.{DiskConfig}
+use Rattle.chv_defs_api.specs.ConfigRules.{default_id, has_bad_id, id_beside, is_free, lowest_free, with_id, with_ids}
 use Rattle.chv_config.proofs.Firsts.{find-range, IsFirstPassing}
 use Rattle.chv_config.proofs.Kept.{or_false_both, or_false_parts}
 

@@ -7,14 +7,14 @@ use Rattle.std.proofs.lemmas.List.{length-append, length-map, map-append}
 use Rattle.std.proofs.lemmas.List.Folds.{list_any-append}
 use Rattle.std.proofs.lemmas.Bool.{false_from_ne_true}
 use Rattle.std.proofs.lemmas.Bool.Decides.{nat_tests}
-use Rattle.chv_defs.specs.declared.rule.Rule.{Rule}
-use Rattle.chv_defs.specs.declared.rule.Rule.TheVariants.{DiskUnknown, DiskTwice, DeviceIdBad, DeviceIdTwice, QueueShape, TooManyDevices}
-use Rattle.chv_defs.specs.declared.config.ZoneConfig.{ZoneConfig}
-use Rattle.chv_defs.specs.declared.config.DiskConfig.{DiskConfig}
-use Rattle.chv_defs.specs.declared.config.VmConfig.{VmConfig}
-use Rattle.chv_defs.specs.declared.context.DeviceKind.{DeviceKind}
-use Rattle.chv_defs.specs.declared.context.DeviceKind.TheVariants.{Disk, Memory}
-use Rattle.chv_defs.specs.ConfigRules.{has_text, has_twice, lowest_free, default_id, given_ids, with_ids, id_beside, memory_device_id, memory_device_ids, memory_devices, disk_devices, grows, first_broken, cpu_rules, memory_rules, device_rules, disk_unknown, disk_twice, device_id_bad, device_id_twice, queue_shape, too_many_devices, verdict, ids_of, zones_in_effect, devices_of, device_ids, checked_of}
+use Rattle.chv_defs_base.specs.declared.rule.Rule.{Rule}
+use Rattle.chv_defs_base.specs.declared.rule.Rule.TheVariants.{DiskUnknown, DiskTwice, DeviceIdBad, DeviceIdTwice, QueueShape, TooManyDevices}
+use Rattle.chv_defs_api.specs.declared.config.ZoneConfig.{ZoneConfig}
+use Rattle.chv_defs_api.specs.declared.config.DiskConfig.{DiskConfig}
+use Rattle.chv_defs_api.specs.declared.config.VmConfig.{VmConfig}
+use Rattle.chv_defs_api.specs.declared.context.DeviceKind.{DeviceKind}
+use Rattle.chv_defs_api.specs.declared.context.DeviceKind.TheVariants.{Disk, Memory}
+use Rattle.chv_defs_api.specs.ConfigRules.{has_text, has_twice, lowest_free, default_id, given_ids, with_ids, id_beside, memory_device_id, memory_device_ids, memory_devices, disk_devices, grows, first_broken, cpu_rules, memory_rules, device_rules, disk_unknown, disk_twice, device_id_bad, device_id_twice, queue_shape, too_many_devices, verdict, ids_of, zones_in_effect, devices_of, device_ids, checked_of}
 use Rattle.chv_config.proofs.Twice.{bytes_eq_comm}
 use Rattle.chv_config.proofs.DefaultIds.{lowest_free-is}
 

@@ -11,13 +11,13 @@ use Rattle.std.proofs.lemmas.Slice.Eq.{bytes_eq-Decides}
 use Rattle.std.proofs.lemmas.List.{length-append, length-map, map-append}
 use Rattle.std.proofs.lemmas.List.Folds.{list_any-append, list_all-append}
 use Rattle.std.proofs.lemmas.List.Elements.{filter_map-append}
-use Rattle.chv_defs.specs.declared.rule.Rule.{Rule}
-use Rattle.chv_defs.specs.declared.rule.Rule.TheVariants.{DiskUnknown, DiskTwice, DeviceIdBad, DeviceIdTwice, QueueShape, TooManyDevices}
-use Rattle.chv_defs.specs.declared.config.Checked.{Checked}
-use Rattle.chv_defs.specs.declared.config.ZoneConfig.{ZoneConfig}
-use Rattle.chv_defs.specs.declared.config.DiskConfig.{DiskConfig}
-use Rattle.chv_defs.specs.declared.config.VmConfig.{VmConfig}
-use Rattle.chv_defs.specs.ConfigRules.{IsChecked, checked_of, cpu_rules, default_id, device_id_bad, device_id_twice, device_ids, device_rules, disk_name, disk_twice, disk_unknown, first_broken, further_disk_rules, given_ids, grows, has_bad_id, has_odd_queue, has_text, has_twice, id_beside, ids_of, is_unknown, lowest_free, memory_device_id, memory_device_ids, memory_rules, queue_shape, too_many_devices, unless_refused, verdict, with_disk, with_id, with_ids, zones_in_effect}
+use Rattle.chv_defs_base.specs.declared.rule.Rule.{Rule}
+use Rattle.chv_defs_base.specs.declared.rule.Rule.TheVariants.{DiskUnknown, DiskTwice, DeviceIdBad, DeviceIdTwice, QueueShape, TooManyDevices}
+use Rattle.chv_defs_api.specs.declared.config.Checked.{Checked}
+use Rattle.chv_defs_api.specs.declared.config.ZoneConfig.{ZoneConfig}
+use Rattle.chv_defs_api.specs.declared.config.DiskConfig.{DiskConfig}
+use Rattle.chv_defs_api.specs.declared.config.VmConfig.{VmConfig}
+use Rattle.chv_defs_api.specs.ConfigRules.{IsChecked, checked_of, cpu_rules, default_id, device_id_bad, device_id_twice, device_ids, device_rules, disk_name, disk_twice, disk_unknown, first_broken, further_disk_rules, given_ids, grows, has_bad_id, has_odd_queue, has_text, has_twice, id_beside, ids_of, is_unknown, lowest_free, memory_device_id, memory_device_ids, memory_rules, queue_shape, too_many_devices, unless_refused, verdict, with_disk, with_id, with_ids, zones_in_effect}
 use Rattle.chv_config.proofs.DefaultIds.{lowest_free-is}
 use Rattle.chv_config.proofs.Fewer.{ids-filter, length-filter-le, list_all-filter, list_any-filter, names-filter}
 use Rattle.chv_config.proofs.Firsts.{first_broken-none}

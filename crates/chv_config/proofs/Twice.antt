@@ -6,8 +6,8 @@ use Rattle.std.specs.Str.{bytes_eq}
 use Rattle.std.specs.Cmp.{partial_equiv_from_equiv}
 use Rattle.std.specs.Cmp.Lexicographic.{nat_list_eq_equiv}
 use Rattle.std.proofs.lemmas.List.Folds.{list_any-append}
-use Rattle.chv_defs.specs.ConfigRules.{has_text, has_twice, is_unknown, disk_name}
-use Rattle.chv_defs.specs.declared.config.DiskConfig.{DiskConfig}
+use Rattle.chv_defs_api.specs.ConfigRules.{has_text, has_twice, is_unknown, disk_name}
+use Rattle.chv_defs_api.specs.declared.config.DiskConfig.{DiskConfig}
 
 pub bytes_eq_comm : (a b : List ℕ) → bytes_eq a b ≡ bytes_eq b a
 bytes_eq_comm a b = (partial_equiv_from_equiv nat_list_eq_equiv).symm a b

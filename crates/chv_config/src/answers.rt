@@ -1,12 +1,13 @@
 // The answers to a configuration and to one further disk.
 ghost use Rattle.std.specs.Prelude.{◌≡◌, ◌++◌, IfOk};
-ghost use Rattle.chv_defs.specs.ConfigRules.{check_answer, check_disk_answer, checked_of, device_rules, first_broken, memory_rules, verdict};
+ghost use Rattle.chv_defs_api.specs.ConfigRules.{check_answer, check_disk_answer, checked_of, device_rules, first_broken, memory_rules, verdict};
 
 use crate::cpus::cpu_rule;
 use crate::devices::{device_rule, further_disk_rule};
 use crate::ids::{known_ids, with_id, with_ids};
 use crate::memory::{memory_rule, zones_in_effect};
-use chv_defs::{Checked, DiskConfig, Name, Row, Rule, VmConfig, copy_of};
+use chv_defs_api::{Checked, DiskConfig, VmConfig};
+use chv_defs_base::{Name, Row, Rule, copy_of};
 use std::alloc::{AllocError, Global};
 
 /// Checks a configuration where disks of these names stand by: the lowest rule that it breaks, or else the

@@ -1,8 +1,9 @@
 // The rules on vCPUs.
 ghost use Rattle.std.specs.Prelude.{◌≡◌};
-ghost use Rattle.chv_defs.specs.ConfigRules.{cpu_rules, first_broken};
+ghost use Rattle.chv_defs_api.specs.ConfigRules.{cpu_rules, first_broken};
 
-use chv_defs::{Rule, VmConfig};
+use chv_defs_api::VmConfig;
+use chv_defs_base::Rule;
 
 /// How many vCPUs a machine has at most.
 const CPU_LIMIT: u64 = 16;

@@ -1,13 +1,14 @@
 // The rules on disks and devices.
 ghost use Rattle.std.specs.Prelude.{◌≡◌, IfOk, false};
 ghost use Rattle.std.specs.Option.{option_map_or};
-ghost use Rattle.chv_defs.specs.ConfigRules.{device_id_bad, device_id_twice, device_ids, device_rules, disk_name, disk_twice, disk_unknown, first_broken, further_disk_rules, has_text, queue_shape, too_many_devices};
+ghost use Rattle.chv_defs_api.specs.ConfigRules.{device_id_bad, device_id_twice, device_ids, device_rules, disk_name, disk_twice, disk_unknown, first_broken, further_disk_rules, has_text, queue_shape, too_many_devices};
 
 use crate::disks::{disk_name, disk_names, has_bad_id, has_odd_queue, texts_of};
 use crate::ids::known_ids;
 use crate::memory::{growing_zones, zones_in_effect};
 use crate::texts::{are_among, has_text, has_twice};
-use chv_defs::{Checked, DiskConfig, Name, Row, Rule, SLOTS, Text, VmConfig};
+use chv_defs_api::{Checked, DiskConfig, VmConfig};
+use chv_defs_base::{Name, Row, Rule, SLOTS, Text};
 use std::alloc::{AllocError, Global};
 
 /// The first rule on disks and devices that a configuration breaks, where disks of these names stand by.

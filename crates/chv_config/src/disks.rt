@@ -1,9 +1,10 @@
 // What is asked of a disk by itself.
 ghost use Rattle.std.specs.Prelude.{◌≡◌, IfOk, map};
-ghost use Rattle.chv_defs.specs.ConfigRules.{disk_name, has_bad_id, has_odd_queue};
+ghost use Rattle.chv_defs_api.specs.ConfigRules.{disk_name, has_bad_id, has_odd_queue};
 
 use crate::texts::is_id;
-use chv_defs::{DiskConfig, Name, Row, Text, last_component};
+use chv_defs_api::{DiskConfig, last_component};
+use chv_defs_base::{Name, Row, Text};
 use std::alloc::{AllocError, Global};
 
 /// The sizes that a queue can have: the powers of two up to 1,024.

@@ -1,9 +1,10 @@
 // The ids of devices: the given ones, and the default ones.
 ghost use Rattle.std.specs.Prelude.{◌≡◌, ◌++◌, [], ◌∷◌, IfOk, OnOk};
-ghost use Rattle.chv_defs.specs.ConfigRules.{default_id, given_ids, id_beside, ids_of, lowest_free, memory_device_id, memory_device_ids, with_id, with_ids};
+ghost use Rattle.chv_defs_api.specs.ConfigRules.{default_id, given_ids, id_beside, ids_of, lowest_free, memory_device_id, memory_device_ids, with_id, with_ids};
 
 use crate::texts::has_text;
-use chv_defs::{DiskConfig, Row, Text, ZoneConfig, copy_of};
+use chv_defs_api::{DiskConfig, ZoneConfig};
+use chv_defs_base::{Row, Text, copy_of};
 use std::alloc::{AllocError, Global};
 
 /// The ids of devices that are known: those of the memory devices, then those that disks are given.

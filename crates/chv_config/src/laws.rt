@@ -1,9 +1,10 @@
 // Laws of the definitions.
 ghost use Rattle.std.specs.Prelude.{◌≡◌, ℕ, ◌<◌, ◌≤◌, ◌^◌, None, true, false, is_some, length, map};
 ghost use Rattle.std.specs.List.{list_all};
-ghost use Rattle.chv_defs.specs.ConfigRules.{checked_of, device_ids, devices_of, has_twice, is_free, lowest_free, verdict};
+ghost use Rattle.chv_defs_api.specs.ConfigRules.{checked_of, device_ids, devices_of, has_twice, is_free, lowest_free, verdict};
 
-use chv_defs::{Name, Row, Text, VmConfig};
+use chv_defs_api::VmConfig;
+use chv_defs_base::{Name, Row, Text};
 
 /// A default id is one that no device uses, and the lowest such one.
 pub fn default_id_is_lowest(ids: &[Text])

@@ -1,13 +1,12 @@
 // The rules on memory.
 ghost use Rattle.std.specs.Prelude.{◌≡◌, ◌==◌, ◌+◌, ◌*◌, ◌^◌, ◌&&◌, ◌||◌, Bool, nat_lt, not, map, filter, length, IfOk};
 ghost use Rattle.std.specs.List.{list_any};
-ghost use Rattle.chv_defs.specs.ConfigRules.{first_broken, grows, has_zones, hotplugged_above, is_acpi, is_unaligned, memory_rules, size_unaligned, size_zero, too_many_zones, way_acpi, way_for_zones, zone_id_bad, zone_id_twice, zone_too_large, zones_in_effect, zones_need_size_zero, zones_own_hotplug};
-ghost use Rattle.chv_defs.specs.Id.{is_id};
+ghost use Rattle.chv_defs_api.specs.ConfigRules.{first_broken, grows, has_zones, hotplugged_above, is_acpi, is_unaligned, memory_rules, size_unaligned, size_zero, too_many_zones, way_acpi, way_for_zones, zone_id_bad, zone_id_twice, zone_too_large, zones_in_effect, zones_need_size_zero, zones_own_hotplug};
+ghost use Rattle.chv_defs_base.specs.Id.{is_id};
 
 use crate::texts::{has_twice, is_id};
-use chv_defs::{
-    BLOCK_BYTES, Hotplug, MOST_ZONES, MemConfig, Row, Rule, Text, VmConfig, ZoneConfig, copy_of,
-};
+use chv_defs_api::{Hotplug, MemConfig, VmConfig, ZoneConfig};
+use chv_defs_base::{BLOCK_BYTES, MOST_ZONES, Row, Rule, Text, copy_of};
 use std::alloc::{AllocError, Global};
 
 /// How many bytes a zone has at most, plugged or not (64 GiB).

@@ -1,10 +1,10 @@
 // Lists of texts: identifiers, names, and whether one stands twice.
 ghost use Rattle.std.specs.Prelude.{◌≡◌, ◌==◌, ◌&&◌, IfOk, length, nat_le};
 ghost use Rattle.std.specs.List.{list_all, list_any};
-ghost use Rattle.chv_defs.specs.ConfigRules.{has_text, has_twice};
-ghost use Rattle.chv_defs.specs.Id.{is_id, is_id_byte};
+ghost use Rattle.chv_defs_api.specs.ConfigRules.{has_text, has_twice};
+ghost use Rattle.chv_defs_base.specs.Id.{is_id, is_id_byte};
 
-use chv_defs::Text;
+use chv_defs_base::Text;
 use std::alloc::{AllocError, Global};
 use std::collections::HashSet;
 

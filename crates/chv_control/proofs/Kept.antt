@@ -2,23 +2,23 @@
 use Rattle.std.proofs.Common.{◌≡◌, ◌≤◌, ◌+◌, ℕ, Bool, true, false, List, [], ◌∷◌, ◌++◌, if◌then◌else◌, nat_lt, length, None, Some, refl, sym, subst, ◌∙◌, ap, arith, length-append}
 use Rattle.std.specs.Prelude.{◌||◌}
 use Rattle.std.proofs.lemmas.Bool.Decides.{nat_tests}
-use Rattle.chv_defs.specs.declared.bank.BookId.TheVariants.{Control}
-use Rattle.chv_defs.specs.declared.control.Goal.TheVariants.{Shutdown, Delete}
+use Rattle.chv_defs_base.specs.declared.book.BookId.TheVariants.{Control}
+use Rattle.chv_defs_api.specs.declared.control.Goal.TheVariants.{Shutdown, Delete}
 use Rattle.std.proofs.lemmas.List.Sums.{sum_by_push}
-use Rattle.chv_defs.specs.declared.machine.Machine.{Machine}
-use Rattle.chv_defs.specs.declared.bank.Full.{Full}
-use Rattle.chv_defs.specs.declared.scene.OnShelf.{OnShelf}
-use Rattle.chv_defs.specs.declared.control.ControlCall.{ControlCall}
-use Rattle.chv_defs.specs.declared.control.ControlCall.TheVariants as call
-use Rattle.chv_defs.specs.declared.control.ControlReply.{ControlReply}
-use Rattle.chv_defs.specs.declared.control.ControlReply.TheVariants as reply
-use Rattle.chv_defs.specs.declared.control.ControlEntry.{ControlEntry}
-use Rattle.chv_defs.specs.BankState.{most_entries, most_payload}
-use Rattle.chv_defs.specs.Machine.{IsWellFormed, empty_machine}
-use Rattle.chv_defs.specs.ApiStep.{after, reply_to}
-use Rattle.chv_defs.specs.ControlBook.{entry_payload, full_at, is_stop, passes_limit, payload, places}
-use Rattle.chv_defs.specs.ControlStep.{Step}
-use Rattle.chv_defs.proofs.Leads.{Leads-push}
+use Rattle.chv_defs_control.specs.declared.machine.Machine.{Machine}
+use Rattle.chv_defs_base.specs.declared.book.Full.{Full}
+use Rattle.chv_defs_api.specs.declared.shelf.OnShelf.{OnShelf}
+use Rattle.chv_defs_api.specs.declared.control.ControlCall.{ControlCall}
+use Rattle.chv_defs_api.specs.declared.control.ControlCall.TheVariants as call
+use Rattle.chv_defs_api.specs.declared.control.ControlReply.{ControlReply}
+use Rattle.chv_defs_api.specs.declared.control.ControlReply.TheVariants as reply
+use Rattle.chv_defs_api.specs.declared.control.ControlEntry.{ControlEntry}
+use Rattle.chv_defs_base.specs.Sizes.{most_entries, most_payload}
+use Rattle.chv_defs_control.specs.Machine.{IsWellFormed, empty_machine}
+use Rattle.chv_defs_control.specs.ApiStep.{after, reply_to}
+use Rattle.chv_defs_control.specs.ControlBook.{entry_payload, full_at, is_stop, passes_limit, payload, places}
+use Rattle.chv_defs_control.specs.ControlStep.{Step}
+use Rattle.chv_defs_control.proofs.Leads.{Leads-push}
 use Rattle.chv_ctl_api.proofs.Kept.{IsWellFormed-after}
 use Rattle.chv_control.specs.Control.{IsKept}
 

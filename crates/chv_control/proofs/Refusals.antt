@@ -1,16 +1,16 @@
 -- Refused calls change nothing.
 use Rattle.std.proofs.Common.{◌≡◌, ℕ, Bool, true, false, List, [], ◌∷◌, filter, if◌then◌else◌, refl, subst, ◌∙◌}
-use Rattle.chv_defs.specs.declared.machine.Machine.{Machine}
-use Rattle.chv_defs.specs.declared.scene.OnShelf.{OnShelf}
-use Rattle.chv_defs.specs.declared.control.Goal.TheVariants.{Shutdown, Delete}
-use Rattle.chv_defs.specs.declared.control.ControlCall.{ControlCall}
-use Rattle.chv_defs.specs.declared.control.ControlCall.TheVariants as call
-use Rattle.chv_defs.specs.declared.control.ControlReply.{ControlReply}
-use Rattle.chv_defs.specs.declared.control.ControlReply.TheVariants as reply
-use Rattle.chv_defs.specs.declared.control.ControlEntry.{ControlEntry}
-use Rattle.chv_defs.specs.ApiStep.{after}
-use Rattle.chv_defs.specs.ControlStep.{Step}
-use Rattle.chv_defs.specs.LegalControl.{Leads, is_accepting, is_accepted}
+use Rattle.chv_defs_control.specs.declared.machine.Machine.{Machine}
+use Rattle.chv_defs_api.specs.declared.shelf.OnShelf.{OnShelf}
+use Rattle.chv_defs_api.specs.declared.control.Goal.TheVariants.{Shutdown, Delete}
+use Rattle.chv_defs_api.specs.declared.control.ControlCall.{ControlCall}
+use Rattle.chv_defs_api.specs.declared.control.ControlCall.TheVariants as call
+use Rattle.chv_defs_api.specs.declared.control.ControlReply.{ControlReply}
+use Rattle.chv_defs_api.specs.declared.control.ControlReply.TheVariants as reply
+use Rattle.chv_defs_api.specs.declared.control.ControlEntry.{ControlEntry}
+use Rattle.chv_defs_control.specs.ApiStep.{after}
+use Rattle.chv_defs_control.specs.ControlStep.{Step}
+use Rattle.chv_defs_control.specs.LegalControl.{Leads, is_accepting, is_accepted}
 
 after-Ruled : (m : Machine) (caller : ℕ) (c : ControlCall) (r : ControlReply) → is_accepting r ≡ false → after m caller c r ≡ m
 after-Ruled m caller (call.Create config) reply.Done h = cc

@@ -1,17 +1,17 @@
 -- No entry of a legal history is answered Holding.
 use Rattle.std.proofs.Common.{◌≡◌, ℕ, Bool, true, false, List, [], ◌∷◌, Option, None, Some, map, cond, refl, ◌∙◌, ap}
 use Rattle.std.specs.Prelude.{◌==◌}
-use Rattle.chv_defs.specs.declared.machine.Machine.{Machine}
-use Rattle.chv_defs.specs.declared.scene.OnShelf.{OnShelf}
-use Rattle.chv_defs.specs.declared.rule.Rule.{Rule}
-use Rattle.chv_defs.specs.declared.control.ControlCall.{ControlCall}
-use Rattle.chv_defs.specs.declared.control.ControlCall.TheVariants as call
-use Rattle.chv_defs.specs.declared.control.ControlReply.{ControlReply}
-use Rattle.chv_defs.specs.declared.control.ControlReply.TheVariants as reply
-use Rattle.chv_defs.specs.declared.control.ControlEntry.{ControlEntry}
-use Rattle.chv_defs.specs.ApiStep.{refusal_of, refused_or, success_of}
-use Rattle.chv_defs.specs.Desks.{Answer, is_held, is_holding}
-use Rattle.chv_defs.specs.LegalControl.{Leads, answers_by, entries_by}
+use Rattle.chv_defs_control.specs.declared.machine.Machine.{Machine}
+use Rattle.chv_defs_api.specs.declared.shelf.OnShelf.{OnShelf}
+use Rattle.chv_defs_base.specs.declared.rule.Rule.{Rule}
+use Rattle.chv_defs_api.specs.declared.control.ControlCall.{ControlCall}
+use Rattle.chv_defs_api.specs.declared.control.ControlCall.TheVariants as call
+use Rattle.chv_defs_api.specs.declared.control.ControlReply.{ControlReply}
+use Rattle.chv_defs_api.specs.declared.control.ControlReply.TheVariants as reply
+use Rattle.chv_defs_api.specs.declared.control.ControlEntry.{ControlEntry}
+use Rattle.chv_defs_control.specs.ApiStep.{refusal_of, refused_or, success_of}
+use Rattle.chv_defs_api.specs.Desks.{Answer, is_held, is_holding}
+use Rattle.chv_defs_control.specs.LegalControl.{Leads, answers_by, entries_by}
 
 no_success_holds : (m : Machine) (c : ControlCall) → is_holding (success_of m c) ≡ false
 no_success_holds m call.Info = refl

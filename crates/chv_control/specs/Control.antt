@@ -1,16 +1,16 @@
 -- What contracts see of the control value, and what its type keeps.
 use Rattle.std.specs.Prelude.{◌≤◌, ◌+◌, ℕ, List, [], ◌∷◌, ◌++◌, Option, None, Some, Result, Ok, Err}
-use Rattle.chv_defs.specs.declared.machine.Machine.{Machine}
-use Rattle.chv_defs.specs.declared.bank.Full.{Full}
-use Rattle.chv_defs.specs.declared.scene.OnShelf.{OnShelf}
-use Rattle.chv_defs.specs.declared.control.ControlCall.{ControlCall}
-use Rattle.chv_defs.specs.declared.control.ControlReply.{ControlReply}
-use Rattle.chv_defs.specs.declared.control.ControlEntry.{ControlEntry}
-use Rattle.chv_defs.specs.BankState.{most_entries, most_payload}
-use Rattle.chv_defs.specs.Machine.{IsWellFormed, empty_machine}
-use Rattle.chv_defs.specs.ApiStep.{after, reply_to}
-use Rattle.chv_defs.specs.ControlBook.{full_at, payload, places}
-use Rattle.chv_defs.specs.LegalControl.{IsLegal}
+use Rattle.chv_defs_control.specs.declared.machine.Machine.{Machine}
+use Rattle.chv_defs_base.specs.declared.book.Full.{Full}
+use Rattle.chv_defs_api.specs.declared.shelf.OnShelf.{OnShelf}
+use Rattle.chv_defs_api.specs.declared.control.ControlCall.{ControlCall}
+use Rattle.chv_defs_api.specs.declared.control.ControlReply.{ControlReply}
+use Rattle.chv_defs_api.specs.declared.control.ControlEntry.{ControlEntry}
+use Rattle.chv_defs_base.specs.Sizes.{most_entries, most_payload}
+use Rattle.chv_defs_control.specs.Machine.{IsWellFormed, empty_machine}
+use Rattle.chv_defs_control.specs.ApiStep.{after, reply_to}
+use Rattle.chv_defs_control.specs.ControlBook.{full_at, payload, places}
+use Rattle.chv_defs_control.specs.LegalControl.{IsLegal}
 use Rattle.chv_store.specs.declared.any_disk.AnyDisk.{AnyDisk}
 use Rattle.chv_control.specs.declared.inner.Inner.{Inner}
 use Rattle.chv_control.specs.declared.inner.Inner.TheVariants as inner

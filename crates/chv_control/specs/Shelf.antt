@@ -1,6 +1,6 @@
 -- What is known of the disks that stand by.
 use Rattle.std.specs.Prelude.{ℕ, List, length, map}
-use Rattle.chv_defs.specs.declared.scene.OnShelf.{OnShelf}
+use Rattle.chv_defs_api.specs.declared.shelf.OnShelf.{OnShelf}
 use Rattle.chv_store.specs.AnyDisk.{of_either}
 use Rattle.chv_store.specs.declared.any_disk.AnyDisk.{AnyDisk}
 

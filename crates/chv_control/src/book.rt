@@ -1,13 +1,12 @@
 // What an entry costs the control book.
 ghost use Rattle.std.specs.Prelude.{◌≡◌, ◌+◌, ◌≤◌, ◌<◌, ◌^◌, IfOk};
-ghost use Rattle.chv_defs.specs.BankState.{most_entries, most_payload};
-ghost use Rattle.chv_defs.specs.declared.control.ControlReply.TheVariants.{Added};
-ghost use Rattle.chv_defs.specs.ControlBook.{call_payload, entry_payload, full_at, payload, places, reply_payload};
+ghost use Rattle.chv_defs_base.specs.Sizes.{most_entries, most_payload};
+ghost use Rattle.chv_defs_api.specs.declared.control.ControlReply.TheVariants.{Added};
+ghost use Rattle.chv_defs_control.specs.ControlBook.{call_payload, entry_payload, full_at, payload, places, reply_payload};
 
-use chv_defs::{
-    BookId, ControlCall, ControlEntry, ControlReply, DeviceInfo, Full, MOST_ENTRIES, MOST_PAYLOAD,
-    Machine, Text, copy_of,
-};
+use chv_defs_api::{ControlCall, ControlEntry, ControlReply, DeviceInfo};
+use chv_defs_base::{BookId, Full, MOST_ENTRIES, MOST_PAYLOAD, Text, copy_of};
+use chv_defs_control::Machine;
 use chv_json::{config_text, counters_text, device_text, disk_text, info_text};
 use std::alloc::{AllocError, Global};
 

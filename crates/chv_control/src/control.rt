@@ -1,15 +1,15 @@
 // The control value.
 ghost use Rattle.std.specs.Prelude.{◌≡◌, ◌≢◌, ◌≤◌, ℕ, true, false, IsOk, IfOk, IfErr, OnErr};
-ghost use Rattle.chv_defs.specs.declared.machine.Life.TheVariants as life;
-ghost use Rattle.chv_defs.specs.declared.control.ControlCall.TheVariants.{Stop};
-ghost use Rattle.chv_defs.specs.BankState.{most_entries, most_payload};
-ghost use Rattle.chv_defs.specs.Shown.{shown};
-ghost use Rattle.chv_defs.specs.Desks.{can_have, is_held, is_session_call};
-ghost use Rattle.chv_defs.specs.ControlBook.{is_stop, payload, places};
-ghost use Rattle.chv_defs.specs.Machine.{empty_machine};
-ghost use Rattle.chv_defs.specs.declared.control.ControlReply.TheVariants.{Done};
-ghost use Rattle.chv_defs.specs.ControlStep.{MayCall};
-ghost use Rattle.chv_defs.specs.LegalControl.{IsLegal, answers_by};
+ghost use Rattle.chv_defs_control.specs.declared.machine.Life.TheVariants as life;
+ghost use Rattle.chv_defs_api.specs.declared.control.ControlCall.TheVariants.{Stop};
+ghost use Rattle.chv_defs_base.specs.Sizes.{most_entries, most_payload};
+ghost use Rattle.chv_defs_control.specs.Shown.{shown};
+ghost use Rattle.chv_defs_api.specs.Desks.{can_have, is_held, is_session_call};
+ghost use Rattle.chv_defs_control.specs.ControlBook.{is_stop, payload, places};
+ghost use Rattle.chv_defs_control.specs.Machine.{empty_machine};
+ghost use Rattle.chv_defs_api.specs.declared.control.ControlReply.TheVariants.{Done};
+ghost use Rattle.chv_defs_control.specs.ControlStep.{MayCall};
+ghost use Rattle.chv_defs_control.specs.LegalControl.{IsLegal, answers_by};
 
 use crate::book::full_at;
 use crate::entries::{make_room, put_entry};
@@ -18,7 +18,9 @@ use crate::made::{leave, make};
 use crate::shelf::shelf_of;
 use crate::start::Start;
 use chv_ctl_api::show;
-use chv_defs::{ControlCall, ControlEntry, ControlReply, Info, Life, Machine, Name, OnShelf, Row};
+use chv_defs_api::{ControlCall, ControlEntry, ControlReply, Info, OnShelf};
+use chv_defs_base::{Name, Row};
+use chv_defs_control::{Life, Machine};
 use chv_io::Disk;
 use chv_store::AnyDisk;
 use std::alloc::{AllocError, Global};
@@ -40,7 +42,7 @@ pub struct Control<D: Disk> {
 
 impl<D: Disk> Model for Control<D> {
     ghost use Rattle.std.specs.Prelude.{◌≡◌, ◌+◌, ◌≤◌, if◌then◌else◌, vec_len, vec_capacity};
-    ghost use Rattle.chv_defs.specs.ControlBook.{payload};
+    ghost use Rattle.chv_defs_control.specs.ControlBook.{payload};
     ghost use Rattle.chv_control.specs.Control.{Controlled, IsKept};
     ghost use Rattle.chv_control.specs.Shelf.{sectors_of, shelf_of};
 

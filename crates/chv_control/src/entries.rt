@@ -1,7 +1,7 @@
 // The entries of the history.
 ghost use Rattle.std.specs.Prelude.{◌≡◌, ◌+◌, ◌<◌, ◌≤◌, [], ◌∷◌, ◌++◌, vec_len, vec_capacity, OnOk};
 
-use chv_defs::ControlEntry;
+use chv_defs_api::ControlEntry;
 use std::alloc::AllocError;
 
 /// Makes room for an entry, and for that of a Stop behind it.

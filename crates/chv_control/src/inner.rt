@@ -1,5 +1,5 @@
 // Why a call makes no entry.
-use chv_defs::Full;
+use chv_defs_base::Full;
 
 /// Why a call makes no entry. So far only `Full` comes.
 #[derive(Clone, Copy, PartialEq, Eq)]

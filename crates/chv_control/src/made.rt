@@ -1,15 +1,17 @@
 // An entry is made, and what its call leaves.
 ghost use Rattle.std.specs.Prelude.{◌≡◌, true, IfOk, OnOk, OnErr};
-ghost use Rattle.chv_defs.specs.Desks.{can_have, is_session_call};
-ghost use Rattle.chv_defs.specs.Machine.{IsWellFormed};
-ghost use Rattle.chv_defs.specs.ApiStep.{after, reply_to};
-ghost use Rattle.chv_defs.specs.ControlBook.{entry_payload};
+ghost use Rattle.chv_defs_api.specs.Desks.{can_have, is_session_call};
+ghost use Rattle.chv_defs_control.specs.Machine.{IsWellFormed};
+ghost use Rattle.chv_defs_control.specs.ApiStep.{after, reply_to};
+ghost use Rattle.chv_defs_control.specs.ControlBook.{entry_payload};
 ghost use Rattle.chv_ctl_api.specs.ApiCalls.{IsApiCall};
 ghost use Rattle.chv_control.specs.Control.{entry_of};
 
 use crate::book::payload_of;
 use chv_ctl_api::{api_leave, api_reply};
-use chv_defs::{ControlCall, ControlEntry, ControlReply, Machine, OnShelf, Row, beside, copy_of};
+use chv_defs_api::{ControlCall, ControlEntry, ControlReply, OnShelf};
+use chv_defs_base::{Row, beside, copy_of};
+use chv_defs_control::Machine;
 use std::alloc::{AllocError, Global};
 
 /// An entry that is not entered yet, its reply once more, and its payload in bytes.

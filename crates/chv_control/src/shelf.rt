@@ -2,7 +2,8 @@
 ghost use Rattle.std.specs.Prelude.{◌≡◌, IfOk};
 ghost use Rattle.chv_control.specs.Shelf.{sectors_of, shelf_of};
 
-use chv_defs::{Name, OnShelf, Row, copy_of};
+use chv_defs_api::OnShelf;
+use chv_defs_base::{Name, Row, copy_of};
 use chv_io::Disk;
 use chv_store::AnyDisk;
 use std::alloc::{AllocError, Global};

@@ -1,5 +1,5 @@
 // What a control value is made of.
-use chv_defs::Name;
+use chv_defs_base::Name;
 use chv_store::AnyDisk;
 
 /// What a control value is made of.

@@ -1,15 +1,15 @@
 -- The answer to a call of a session is of a kind that it can have.
 use Rattle.std.proofs.Common.{◌≡◌, List, Option, None, Some, true, refl, rules}
-use Rattle.chv_defs.specs.declared.machine.Machine.{Machine}
-use Rattle.chv_defs.specs.declared.scene.OnShelf.{OnShelf}
-use Rattle.chv_defs.specs.declared.rule.Rule.{Rule}
-use Rattle.chv_defs.specs.declared.control.ControlCall.{ControlCall}
-use Rattle.chv_defs.specs.declared.control.ControlCall.TheVariants as call
-use Rattle.chv_defs.specs.declared.control.ControlReply.{ControlReply}
-use Rattle.chv_defs.specs.declared.control.ControlReply.TheVariants as reply
-use Rattle.chv_defs.specs.Machine.{IsWellFormed}
-use Rattle.chv_defs.specs.ApiStep.{refusal_of, refused_or, reply_to, success_of}
-use Rattle.chv_defs.specs.Desks.{can_have, is_session_call}
+use Rattle.chv_defs_control.specs.declared.machine.Machine.{Machine}
+use Rattle.chv_defs_api.specs.declared.shelf.OnShelf.{OnShelf}
+use Rattle.chv_defs_base.specs.declared.rule.Rule.{Rule}
+use Rattle.chv_defs_api.specs.declared.control.ControlCall.{ControlCall}
+use Rattle.chv_defs_api.specs.declared.control.ControlCall.TheVariants as call
+use Rattle.chv_defs_api.specs.declared.control.ControlReply.{ControlReply}
+use Rattle.chv_defs_api.specs.declared.control.ControlReply.TheVariants as reply
+use Rattle.chv_defs_control.specs.Machine.{IsWellFormed}
+use Rattle.chv_defs_control.specs.ApiStep.{refusal_of, refused_or, reply_to, success_of}
+use Rattle.chv_defs_api.specs.Desks.{can_have, is_session_call}
 
 -- an answer by rule fits, and so does the success
 either_fits : (c : ControlCall) (found : Option Rule) (success : ControlReply) → ((rule : Rule) → can_have c (reply.Ruled rule) ≡ true) → can_have c success ≡ true → can_have c (refused_or found success) ≡ true

@@ -3,9 +3,9 @@ use Rattle.std.proofs.Common.{◌≡◌, ℕ, Bool, true, false, List, [], ◌�
 use Rattle.std.specs.Prelude.{◌&&◌, ◌||◌, nat_lt, cond}
 use Rattle.std.specs.List.{list_any, cons_option}
 use Rattle.std.specs.Str.{bytes_eq}
-use Rattle.chv_defs.specs.declared.config.ZoneConfig.{ZoneConfig}
-use Rattle.chv_defs.specs.declared.config.DiskConfig.{DiskConfig}
-use Rattle.chv_defs.specs.ConfigRules.{given_ids, grows, has_text, memory_device_id, memory_device_ids}
+use Rattle.chv_defs_api.specs.declared.config.ZoneConfig.{ZoneConfig}
+use Rattle.chv_defs_api.specs.declared.config.DiskConfig.{DiskConfig}
+use Rattle.chv_defs_api.specs.ConfigRules.{given_ids, grows, has_text, memory_device_id, memory_device_ids}
 
 -- whether a disk was given this id
 abbrev pub is_given : List ℕ → DiskConfig → Bool

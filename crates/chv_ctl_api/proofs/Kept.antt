@@ -4,27 +4,27 @@ use Rattle.std.specs.Prelude.{sum_by, not, is_some, unwrap_or, ◌||◌}
 use Rattle.std.specs.List.{list_any}
 use Rattle.std.proofs.lemmas.Bool.Decides.{nat_tests}
 use Rattle.std.proofs.lemmas.List.Sums.{sum_by-cons}
-use Rattle.chv_defs.specs.declared.machine.Machine.{Machine}
-use Rattle.chv_defs.specs.declared.machine.Life.{Life}
-use Rattle.chv_defs.specs.declared.machine.Life.TheVariants as life
-use Rattle.chv_defs.specs.declared.config.Checked.{Checked}
-use Rattle.chv_defs.specs.declared.config.VmConfig.{VmConfig}
-use Rattle.chv_defs.specs.declared.config.MemConfig.{MemConfig}
-use Rattle.chv_defs.specs.declared.config.ZoneConfig.{ZoneConfig}
-use Rattle.chv_defs.specs.declared.config.DiskConfig.{DiskConfig}
-use Rattle.chv_defs.specs.declared.scene.OnShelf.{OnShelf}
-use Rattle.chv_defs.specs.declared.rule.Rule.{Rule}
-use Rattle.chv_defs.specs.declared.rule.Rule.TheVariants.{AlreadyCreated, NotBuilt, NotCreated, SlotsFull}
-use Rattle.chv_defs.specs.declared.control.Goal.TheVariants.{Shutdown, Delete}
-use Rattle.chv_defs.specs.declared.control.ControlCall.{ControlCall}
-use Rattle.chv_defs.specs.declared.control.ControlCall.TheVariants as call
-use Rattle.chv_defs.specs.declared.control.ControlReply.{ControlReply}
-use Rattle.chv_defs.specs.declared.control.ControlReply.TheVariants as reply
-use Rattle.chv_defs.specs.Machine.{AreSessionsAbove, HasChecked, IsWellFormed, RunsBare}
-use Rattle.chv_defs.specs.ApiStep.{after, has_full_slots, has_id, is_booted, is_uncreated, names_of, now_of, refusal_of, reply_to, rules_of, with_new_disk, with_number, without_disk}
-use Rattle.chv_defs.specs.ControlStep.{MayCall}
-use Rattle.chv_defs.specs.ConfigRules.{IsChecked, checked_of, config_rules, first_broken, further_disk_rules, has_zones, own_zone, zones_in_effect, verdict}
-use Rattle.chv_defs.specs.DefaultConfig.{default_config}
+use Rattle.chv_defs_control.specs.declared.machine.Machine.{Machine}
+use Rattle.chv_defs_control.specs.declared.machine.Life.{Life}
+use Rattle.chv_defs_control.specs.declared.machine.Life.TheVariants as life
+use Rattle.chv_defs_api.specs.declared.config.Checked.{Checked}
+use Rattle.chv_defs_api.specs.declared.config.VmConfig.{VmConfig}
+use Rattle.chv_defs_api.specs.declared.config.MemConfig.{MemConfig}
+use Rattle.chv_defs_api.specs.declared.config.ZoneConfig.{ZoneConfig}
+use Rattle.chv_defs_api.specs.declared.config.DiskConfig.{DiskConfig}
+use Rattle.chv_defs_api.specs.declared.shelf.OnShelf.{OnShelf}
+use Rattle.chv_defs_base.specs.declared.rule.Rule.{Rule}
+use Rattle.chv_defs_base.specs.declared.rule.Rule.TheVariants.{AlreadyCreated, NotBuilt, NotCreated, SlotsFull}
+use Rattle.chv_defs_api.specs.declared.control.Goal.TheVariants.{Shutdown, Delete}
+use Rattle.chv_defs_api.specs.declared.control.ControlCall.{ControlCall}
+use Rattle.chv_defs_api.specs.declared.control.ControlCall.TheVariants as call
+use Rattle.chv_defs_api.specs.declared.control.ControlReply.{ControlReply}
+use Rattle.chv_defs_api.specs.declared.control.ControlReply.TheVariants as reply
+use Rattle.chv_defs_control.specs.Machine.{AreSessionsAbove, HasChecked, IsWellFormed, RunsBare}
+use Rattle.chv_defs_control.specs.ApiStep.{after, has_full_slots, has_id, is_booted, is_uncreated, names_of, now_of, refusal_of, reply_to, rules_of, with_new_disk, with_number, without_disk}
+use Rattle.chv_defs_control.specs.ControlStep.{MayCall}
+use Rattle.chv_defs_api.specs.ConfigRules.{IsChecked, checked_of, config_rules, first_broken, further_disk_rules, has_zones, own_zone, zones_in_effect, verdict}
+use Rattle.chv_defs_api.specs.DefaultConfig.{default_config}
 use Rattle.chv_config.proofs.Fewer.{length-filter-le}
 use Rattle.chv_config.proofs.Recheck.{IsChecked-checked_of, IsChecked-filter, IsChecked-parts, IsChecked-with_disk}
 use Rattle.chv_ctl_api.proofs.Verdicts.{first_broken-parts, none-from_done, none-broken}

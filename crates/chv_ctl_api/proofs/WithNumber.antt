@@ -1,7 +1,7 @@
 -- Where a number goes among ascending ones.
 use Rattle.std.proofs.Common.{◌≡◌, ℕ, ◌<◌, List, ◌∷◌, arith}
 use Rattle.std.proofs.lemmas.Grind.{common_steps}
-use Rattle.chv_defs.specs.ApiStep.{with_number}
+use Rattle.chv_defs_control.specs.ApiStep.{with_number}
 
 -- a lower number is passed
 pub with_number-below : (n m : ℕ) (ms : List ℕ) → m < n → with_number n (m ∷ ms) ≡ m ∷ with_number n ms

@@ -1,14 +1,14 @@
 -- What holds of every call of the API, whatever the machine.
 use Rattle.std.specs.Prelude.{◌≡◌, ℕ, List, true}
-use Rattle.chv_defs.specs.declared.machine.Machine.{Machine}
-use Rattle.chv_defs.specs.declared.scene.OnShelf.{OnShelf}
-use Rattle.chv_defs.specs.declared.rule.Rule.{Rule}
-use Rattle.chv_defs.specs.declared.control.ControlCall.{ControlCall}
-use Rattle.chv_defs.specs.declared.control.ControlReply.TheVariants as reply
-use Rattle.chv_defs.specs.Machine.{IsWellFormed}
-use Rattle.chv_defs.specs.ApiStep.{after, reply_to}
-use Rattle.chv_defs.specs.ControlStep.{MayCall}
-use Rattle.chv_defs.specs.Desks.{can_have, is_session_call}
+use Rattle.chv_defs_control.specs.declared.machine.Machine.{Machine}
+use Rattle.chv_defs_api.specs.declared.shelf.OnShelf.{OnShelf}
+use Rattle.chv_defs_base.specs.declared.rule.Rule.{Rule}
+use Rattle.chv_defs_api.specs.declared.control.ControlCall.{ControlCall}
+use Rattle.chv_defs_api.specs.declared.control.ControlReply.TheVariants as reply
+use Rattle.chv_defs_control.specs.Machine.{IsWellFormed}
+use Rattle.chv_defs_control.specs.ApiStep.{after, reply_to}
+use Rattle.chv_defs_control.specs.ControlStep.{MayCall}
+use Rattle.chv_defs_api.specs.Desks.{can_have, is_session_call}
 
 -- A call that is refused by rule leaves the state as it was.
 abbrev pub RefusedLeaveTheState : Type 0

@@ -1,15 +1,17 @@
 // A machine is created, and deleted.
 ghost use Rattle.std.specs.Prelude.{◌≡◌, None, Some, IfOk, OnOk, OnErr};
-ghost use Rattle.chv_defs.specs.declared.machine.Life.TheVariants as life;
-ghost use Rattle.chv_defs.specs.declared.control.ControlCall.TheVariants.{Create};
-ghost use Rattle.chv_defs.specs.declared.control.ControlReply.TheVariants.{Done};
-ghost use Rattle.chv_defs.specs.ApiStep.{names_of, refused_or, reply_to};
-ghost use Rattle.chv_defs.specs.ConfigRules.{checked_of, verdict};
+ghost use Rattle.chv_defs_control.specs.declared.machine.Life.TheVariants as life;
+ghost use Rattle.chv_defs_api.specs.declared.control.ControlCall.TheVariants.{Create};
+ghost use Rattle.chv_defs_api.specs.declared.control.ControlReply.TheVariants.{Done};
+ghost use Rattle.chv_defs_control.specs.ApiStep.{names_of, refused_or, reply_to};
+ghost use Rattle.chv_defs_api.specs.ConfigRules.{checked_of, verdict};
 
 use crate::life::done_unless;
 use crate::shelf::names_of;
 use chv_config::check;
-use chv_defs::{ControlReply, Life, Machine, OnShelf, Row, Rule, VmConfig};
+use chv_defs_api::{ControlReply, OnShelf, VmConfig};
+use chv_defs_base::{Row, Rule};
+use chv_defs_control::{Life, Machine};
 use std::alloc::{AllocError, Global};
 
 /// The answer to a Create.

@@ -1,18 +1,18 @@
 // Disks are added to a machine and removed from it; so far only one that is not booted has any.
 ghost use Rattle.std.specs.Prelude.{◌≡◌, ◌≢◌, [], ◌∷◌, filter, if◌then◌else◌, length, not, List, None, Some, IfOk, OnOk, OnErr};
 ghost use Rattle.std.specs.Str.{bytes_eq};
-ghost use Rattle.chv_defs.specs.declared.control.ControlCall.TheVariants.{AddDisk, Remove};
-ghost use Rattle.chv_defs.specs.declared.rule.Rule.TheVariants.{NotBuilt, SlotsFull};
-ghost use Rattle.chv_defs.specs.declared.scene.OnShelf.{OnShelf};
-ghost use Rattle.chv_defs.specs.ApiStep.{has_full_slots, has_id, is_booted, names_of, now_of, refusal_of, reply_to, with_new_disk, without_disk};
-ghost use Rattle.chv_defs.specs.ConfigRules.{given_ids, grows, has_text, memory_device_id, memory_device_ids, with_disk};
+ghost use Rattle.chv_defs_api.specs.declared.control.ControlCall.TheVariants.{AddDisk, Remove};
+ghost use Rattle.chv_defs_base.specs.declared.rule.Rule.TheVariants.{NotBuilt, SlotsFull};
+ghost use Rattle.chv_defs_api.specs.declared.shelf.OnShelf.{OnShelf};
+ghost use Rattle.chv_defs_control.specs.ApiStep.{has_full_slots, has_id, is_booted, names_of, now_of, refusal_of, reply_to, with_new_disk, without_disk};
+ghost use Rattle.chv_defs_api.specs.ConfigRules.{given_ids, grows, has_text, memory_device_id, memory_device_ids, with_disk};
 
 use crate::life::done_unless;
 use crate::shelf::names_of;
 use chv_config::check_disk;
-use chv_defs::{
-    Checked, ControlReply, DiskConfig, Life, Machine, OnShelf, Row, Rule, SLOTS, Text, ZoneConfig,
-};
+use chv_defs_api::{Checked, ControlReply, DiskConfig, OnShelf, ZoneConfig};
+use chv_defs_base::{Row, Rule, SLOTS, Text};
+use chv_defs_control::{Life, Machine};
 use std::alloc::{AllocError, Global};
 use std::mem;
 

@@ -1,8 +1,8 @@
 // The list of the sessions that have ended.
 ghost use Rattle.std.specs.Prelude.{◌≡◌, ◌≤◌, insert, length, OnOk, OnErr, MatchOption};
-ghost use Rattle.chv_defs.specs.ApiStep.{with_number};
+ghost use Rattle.chv_defs_control.specs.ApiStep.{with_number};
 
-use chv_defs::Row;
+use chv_defs_base::Row;
 use std::alloc::AllocError;
 
 /// Adds a session to those that have ended, which ascend. An `Err` leaves them as they were.

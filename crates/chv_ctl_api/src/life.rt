@@ -1,15 +1,17 @@
 // Calls on a machine's life.
 ghost use Rattle.std.specs.Prelude.{◌≡◌, ℕ, List, if◌then◌else◌};
-ghost use Rattle.chv_defs.specs.declared.control.ControlReply.TheVariants.{Ruled, Done};
-ghost use Rattle.chv_defs.specs.declared.rule.Rule.TheVariants.{NotCreated};
-ghost use Rattle.chv_defs.specs.declared.scene.OnShelf.{OnShelf};
-ghost use Rattle.chv_defs.specs.Machine.{IsWellFormed};
-ghost use Rattle.chv_defs.specs.ApiStep.{is_running, is_uncreated, refused_or, reply_to};
-ghost use Rattle.chv_defs.specs.declared.control.ControlCall.TheVariants.{Begin, Boot, Restore};
-ghost use Rattle.chv_defs.specs.declared.control.Goal.TheVariants.{Pause, Shutdown};
+ghost use Rattle.chv_defs_api.specs.declared.control.ControlReply.TheVariants.{Ruled, Done};
+ghost use Rattle.chv_defs_base.specs.declared.rule.Rule.TheVariants.{NotCreated};
+ghost use Rattle.chv_defs_api.specs.declared.shelf.OnShelf.{OnShelf};
+ghost use Rattle.chv_defs_control.specs.Machine.{IsWellFormed};
+ghost use Rattle.chv_defs_control.specs.ApiStep.{is_running, is_uncreated, refused_or, reply_to};
+ghost use Rattle.chv_defs_api.specs.declared.control.ControlCall.TheVariants.{Begin, Boot, Restore};
+ghost use Rattle.chv_defs_api.specs.declared.control.Goal.TheVariants.{Pause, Shutdown};
 ghost use Rattle.chv_ctl_api.specs.ApiCalls.{refused_by};
 
-use chv_defs::{ControlReply, Goal, Life, Machine, Rule};
+use chv_defs_api::{ControlReply, Goal};
+use chv_defs_base::Rule;
+use chv_defs_control::{Life, Machine};
 
 /// A refusal: there is no machine, or else this rule is broken.
 pub fn refuse(machine: &Machine, rule: Rule) -> ControlReply

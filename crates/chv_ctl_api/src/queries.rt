@@ -1,18 +1,17 @@
 // What `vm.info` and `vm.counters` show.
 ghost use Rattle.std.specs.Prelude.{◌≡◌, ◌≢◌, ◌<◌, ◌≤◌, ◌^◌, List, None, IfOk, map, sum_by};
 ghost use Rattle.std.specs.List.{range_with_len};
-ghost use Rattle.chv_defs.specs.Machine.{IsWellFormed};
-ghost use Rattle.chv_defs.specs.Shown.{present, shown, shown_as, shown_state, shown_zone};
-ghost use Rattle.chv_defs.specs.ApiStep.{reply_to};
-ghost use Rattle.chv_defs.specs.declared.config.ZoneConfig.{ZoneConfig};
-ghost use Rattle.chv_defs.specs.declared.control.ControlCall.TheVariants as call;
-ghost use Rattle.chv_defs.specs.declared.scene.OnShelf.{OnShelf};
+ghost use Rattle.chv_defs_control.specs.Machine.{IsWellFormed};
+ghost use Rattle.chv_defs_control.specs.Shown.{present, shown, shown_as, shown_state, shown_zone};
+ghost use Rattle.chv_defs_control.specs.ApiStep.{reply_to};
+ghost use Rattle.chv_defs_api.specs.declared.config.ZoneConfig.{ZoneConfig};
+ghost use Rattle.chv_defs_api.specs.declared.control.ControlCall.TheVariants as call;
+ghost use Rattle.chv_defs_api.specs.declared.shelf.OnShelf.{OnShelf};
 
 use crate::life::{is_running, refuse};
-use chv_defs::{
-    Checked, ControlReply, Info, Life, Machine, Row, Rule, ShownState, ZoneConfig, ZoneInfo,
-    copy_of,
-};
+use chv_defs_api::{Checked, ControlReply, Info, ShownState, ZoneConfig, ZoneInfo};
+use chv_defs_base::{Row, Rule, copy_of};
+use chv_defs_control::{Life, Machine};
 use std::alloc::{AllocError, Global};
 
 /// The answer to Info.

@@ -2,16 +2,18 @@
 ghost use Rattle.std.specs.Prelude.{◌≡◌, ◌∷◌, [], ◌&&◌, true, not, List, Some, is_some, find};
 ghost use Rattle.std.specs.Option.{option_copied};
 ghost use Rattle.std.specs.Str.{bytes_eq};
-ghost use Rattle.chv_defs.specs.declared.config.ZoneConfig.{ZoneConfig};
-ghost use Rattle.chv_defs.specs.declared.control.ControlCall.TheVariants.{Resize, ResizeZone};
-ghost use Rattle.chv_defs.specs.declared.rule.Rule.TheVariants.{ByZone, NotBuilt, RamRange, VcpuCount, ZoneUnknown};
-ghost use Rattle.chv_defs.specs.declared.scene.OnShelf.{OnShelf};
-ghost use Rattle.chv_defs.specs.Machine.{IsWellFormed};
-ghost use Rattle.chv_defs.specs.ApiStep.{is_bad_vcpu_count, is_given_and, is_out_of_range, is_zone_out_of_range, reply_to, zone_named};
-ghost use Rattle.chv_defs.specs.ConfigRules.{first_broken, has_zones, own_zone};
+ghost use Rattle.chv_defs_api.specs.declared.config.ZoneConfig.{ZoneConfig};
+ghost use Rattle.chv_defs_api.specs.declared.control.ControlCall.TheVariants.{Resize, ResizeZone};
+ghost use Rattle.chv_defs_base.specs.declared.rule.Rule.TheVariants.{ByZone, NotBuilt, RamRange, VcpuCount, ZoneUnknown};
+ghost use Rattle.chv_defs_api.specs.declared.shelf.OnShelf.{OnShelf};
+ghost use Rattle.chv_defs_control.specs.Machine.{IsWellFormed};
+ghost use Rattle.chv_defs_control.specs.ApiStep.{is_bad_vcpu_count, is_given_and, is_out_of_range, is_zone_out_of_range, reply_to, zone_named};
+ghost use Rattle.chv_defs_api.specs.ConfigRules.{first_broken, has_zones, own_zone};
 
 use crate::life::{is_running, refuse};
-use chv_defs::{BLOCK_BYTES, Checked, ControlReply, Machine, Rule, Text, ZoneConfig};
+use chv_defs_api::{Checked, ControlReply, ZoneConfig};
+use chv_defs_base::{BLOCK_BYTES, Rule, Text};
+use chv_defs_control::Machine;
 
 /// The answer to a Resize; `ram` is in bytes.
 pub fn answer_resize(machine: &Machine, vcpus: Option<u64>, ram: Option<u64>) -> ControlReply

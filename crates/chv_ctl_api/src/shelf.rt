@@ -1,8 +1,9 @@
 // The names of the disks that stand by.
 ghost use Rattle.std.specs.Prelude.{◌≡◌, IfOk};
-ghost use Rattle.chv_defs.specs.ApiStep.{names_of};
+ghost use Rattle.chv_defs_control.specs.ApiStep.{names_of};
 
-use chv_defs::{Name, OnShelf, Row, copy_of};
+use chv_defs_api::OnShelf;
+use chv_defs_base::{Name, Row, copy_of};
 use std::alloc::{AllocError, Global};
 
 /// The names of the disks that stand by, in order.

@@ -1,11 +1,11 @@
 // One step of the API.
 ghost use Rattle.std.specs.Prelude.{◌≡◌, true, IsOk, IfOk, OnOk, OnErr};
-ghost use Rattle.chv_defs.specs.declared.control.ControlCall.TheVariants.{Stop};
-ghost use Rattle.chv_defs.specs.declared.control.ControlReply.TheVariants.{Done};
-ghost use Rattle.chv_defs.specs.declared.machine.Life.TheVariants as life;
-ghost use Rattle.chv_defs.specs.Machine.{IsWellFormed};
-ghost use Rattle.chv_defs.specs.ApiStep.{after, reply_to};
-ghost use Rattle.chv_defs.specs.ControlStep.{MayCall};
+ghost use Rattle.chv_defs_api.specs.declared.control.ControlCall.TheVariants.{Stop};
+ghost use Rattle.chv_defs_api.specs.declared.control.ControlReply.TheVariants.{Done};
+ghost use Rattle.chv_defs_control.specs.declared.machine.Life.TheVariants as life;
+ghost use Rattle.chv_defs_control.specs.Machine.{IsWellFormed};
+ghost use Rattle.chv_defs_control.specs.ApiStep.{after, reply_to};
+ghost use Rattle.chv_defs_control.specs.ControlStep.{MayCall};
 ghost use Rattle.chv_ctl_api.specs.ApiCalls.{IsApiCall, is_done};
 
 use crate::creation::{answer_create, create, delete};
@@ -14,7 +14,9 @@ use crate::ended::end_session;
 use crate::life::{answer_begin, answer_boot, answer_restore, refuse};
 use crate::queries::{answer_counters, answer_info};
 use crate::resize::{answer_resize, answer_resize_zone};
-use chv_defs::{ControlCall, ControlReply, Goal, Life, Machine, OnShelf, Row, Rule};
+use chv_defs_api::{ControlCall, ControlReply, Goal, OnShelf};
+use chv_defs_base::{Row, Rule};
+use chv_defs_control::{Life, Machine};
 use std::alloc::{AllocError, Global};
 
 /// The answer to a call of a session or to a Stop, where these disks stand by: the first rule of the call that is broken, or

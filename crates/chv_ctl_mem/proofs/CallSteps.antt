@@ -3,25 +3,26 @@ use Rattle.std.proofs.Common.{◌≡◌, ℕ, ◌+◌, ◌-◌, ◌<◌, ◌≤�
 use Rattle.std.specs.Prelude.{◌==◌, is_ok, slice_get, MatchResult}
 use Rattle.std.proofs.lemmas.Bool.Decides.{nat_tests}
 use Rattle.std.proofs.lemmas.Option.{slice_get_within}
-use Rattle.chv_defs.specs.declared.bank.BankCall.{BankCall}
-use Rattle.chv_defs.specs.declared.bank.BankCall.TheVariants as call
-use Rattle.chv_defs.specs.declared.bank.BankReply.TheVariants as bank_reply
-use Rattle.chv_defs.specs.declared.bank.Refusal.{Refusal}
-use Rattle.chv_defs.specs.declared.config.Checked.{Checked}
-use Rattle.chv_defs.specs.declared.config.ZoneConfig.{ZoneConfig}
-use Rattle.chv_defs.specs.declared.control.ControlCall.{ControlCall}
-use Rattle.chv_defs.specs.declared.control.ControlCall.TheVariants.{Begin, Boot}
-use Rattle.chv_defs.specs.declared.control.ControlReply.TheVariants as reply
-use Rattle.chv_defs.specs.declared.control.Goal.TheVariants.{Delete}
-use Rattle.chv_defs.specs.declared.machine.Machine.{Machine}
-use Rattle.chv_defs.specs.AddressMap.{blocks_in, is_within_limits}
-use Rattle.chv_defs.specs.ApiStep.{is_paused}
-use Rattle.chv_defs.specs.BankBook.{refused_or}
-use Rattle.chv_defs.specs.BankState.{banks}
-use Rattle.chv_defs.specs.Machine.{HasChecked}
-use Rattle.chv_defs.specs.OwnerCalls.{calls_in, calls_where, with_calls, zones_of}
-use Rattle.chv_defs.specs.Zones.{most_zones, Known}
-use Rattle.chv_defs.proofs.ZoneLaws.{thawed-by-thaw}
+use Rattle.chv_defs_memory.specs.declared.bank.BankCall.{BankCall}
+use Rattle.chv_defs_memory.specs.declared.bank.BankCall.TheVariants as call
+use Rattle.chv_defs_memory.specs.declared.bank.BankReply.TheVariants as bank_reply
+use Rattle.chv_defs_memory.specs.declared.bank.Refusal.{Refusal}
+use Rattle.chv_defs_api.specs.declared.config.Checked.{Checked}
+use Rattle.chv_defs_api.specs.declared.config.ZoneConfig.{ZoneConfig}
+use Rattle.chv_defs_api.specs.declared.control.ControlCall.{ControlCall}
+use Rattle.chv_defs_api.specs.declared.control.ControlCall.TheVariants.{Begin, Boot}
+use Rattle.chv_defs_api.specs.declared.control.ControlReply.TheVariants as reply
+use Rattle.chv_defs_api.specs.declared.control.Goal.TheVariants.{Delete}
+use Rattle.chv_defs_control.specs.declared.machine.Machine.{Machine}
+use Rattle.chv_defs_base.specs.Sizes.{blocks_in}
+use Rattle.chv_addr.specs.AddressMap.{is_within_limits}
+use Rattle.chv_defs_control.specs.ApiStep.{is_paused}
+use Rattle.chv_defs_memory.specs.BankBook.{refused_or}
+use Rattle.chv_defs_memory.specs.BankState.{banks}
+use Rattle.chv_defs_control.specs.Machine.{HasChecked}
+use Rattle.chv_defs_control.specs.OwnerCalls.{calls_in, calls_where, with_calls, zones_of}
+use Rattle.chv_defs_memory.specs.Zones.{most_zones, Known}
+use Rattle.chv_defs_memory.proofs.ZoneLaws.{thawed-by-thaw}
 use Rattle.chv_addr.proofs.Limits.{checked-within}
 use Rattle.chv_ctl_mem.specs.BankChanges.{calls_made, is_in_zone, is_in_zone_below, one_more_place, shape_calls, refusal_below, shaped, wipe_calls, AreChanged, AreReady, HasRoom, IsReady, MayMake}
 use Rattle.chv_ctl_mem.specs.ZoneCalls.{left_in, room_refusal_in_all, AreAsBefore, AreAtRest, HaveTheCalls, IsAtRest}

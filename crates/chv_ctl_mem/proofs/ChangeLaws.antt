@@ -2,8 +2,8 @@
 use Rattle.std.proofs.Common.{◌≡◌, ℕ, ◌+◌, ◌<◌, ◌≤◌, Bool, true, false, refl, sym, ◌∙◌, ap, arith}
 use Rattle.std.specs.Prelude.{◌==◌, ◌&&◌, ◌||◌, nat_lt, if◌then◌else◌}
 use Rattle.std.proofs.lemmas.Bool.Decides.{nat_tests}
-use Rattle.chv_defs.specs.BankState.{banks}
-use Rattle.chv_defs.specs.Zones.{IsBank, Known, OtherBanksStay, OtherZonesStay}
+use Rattle.chv_defs_memory.specs.BankState.{banks}
+use Rattle.chv_defs_memory.specs.Zones.{IsBank, Known, OtherBanksStay, OtherZonesStay}
 use Rattle.chv_ctl_mem.specs.BankChanges.{is_bank, is_bank_below, is_in_zone, is_in_zone_below, AreChanged}
 
 or-first : (a b : Bool) → (a || b) ≡ true → b ≡ false → a ≡ true

@@ -2,10 +2,10 @@
 use Rattle.std.proofs.Common.{◌≡◌, ℕ, ◌+◌, ◌<◌, ◌≤◌, Bool, true, false, Option, None, Some, Result, Ok, Err, refl, sym, ◌∙◌, ap, arith}
 use Rattle.std.specs.Prelude.{◌==◌, nat_lt, min, IfOk}
 use Rattle.std.proofs.lemmas.Bool.Decides.{nat_tests}
-use Rattle.chv_defs.specs.declared.bank.Refusal.{Refusal}
-use Rattle.chv_defs.specs.BankBook.{refused_or}
-use Rattle.chv_defs.specs.Zones.{most_zones, zone_refusal, Known}
-use Rattle.chv_defs.proofs.ZoneLaws.{first-due-at, first-due-none, zone-refusal-same}
+use Rattle.chv_defs_memory.specs.declared.bank.Refusal.{Refusal}
+use Rattle.chv_defs_memory.specs.BankBook.{refused_or}
+use Rattle.chv_defs_memory.specs.Zones.{most_zones, zone_refusal, Known}
+use Rattle.chv_defs_memory.proofs.ZoneLaws.{first-due-at, first-due-none, zone-refusal-same}
 use Rattle.chv_ctl_mem.specs.BankChanges.{back_to, is_in_zone, is_in_zone_below, one_more_place, refusal_below, AreChanged, HasPlaces, HasRoom, HavePlaces}
 use Rattle.chv_ctl_mem.specs.ZoneCalls.{AreAsBefore}
 use Rattle.chv_ctl_mem.proofs.ChangeLaws.{next-zone, no-zone-below, zone-not-reached, zone-reached}

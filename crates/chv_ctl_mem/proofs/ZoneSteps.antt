@@ -2,13 +2,13 @@
 use Rattle.std.proofs.Common.{◌≡◌, ℕ, ◌+◌, ◌-◌, ◌<◌, Bool, true, false, List, [], ◌∷◌, Result, Ok, Err, refl, sym, ◌∙◌, ap, subst, arith, IfOk, OnErr, MatchResult}
 use Rattle.std.specs.Prelude.{◌==◌}
 use Rattle.std.proofs.lemmas.Bool.Decides.{nat_tests}
-use Rattle.chv_defs.specs.declared.bank.BankCall.{BankCall}
-use Rattle.chv_defs.specs.declared.bank.BankReply.{BankReply}
-use Rattle.chv_defs.specs.declared.bank.Refusal.{Refusal}
-use Rattle.chv_defs.specs.BankBook.{pages_used, refused_or}
-use Rattle.chv_defs.specs.BankState.{banks}
-use Rattle.chv_defs.specs.Zones.{with_room, zone_refusal, Enters, GivesBack, Known, MakesRoom, OnlySeesMore, OtherBanksStay, OtherZonesStay, OwnerMayAsk}
-use Rattle.chv_defs.proofs.ZoneLaws.{entered_by, enters-none, gives-back-none, makes-room-none, sees-none}
+use Rattle.chv_defs_memory.specs.declared.bank.BankCall.{BankCall}
+use Rattle.chv_defs_memory.specs.declared.bank.BankReply.{BankReply}
+use Rattle.chv_defs_memory.specs.declared.bank.Refusal.{Refusal}
+use Rattle.chv_defs_memory.specs.BankBook.{pages_used, refused_or}
+use Rattle.chv_defs_memory.specs.BankState.{banks}
+use Rattle.chv_defs_memory.specs.Zones.{with_room, zone_refusal, Enters, GivesBack, Known, MakesRoom, OnlySeesMore, OtherBanksStay, OtherZonesStay, OwnerMayAsk}
+use Rattle.chv_defs_memory.proofs.ZoneLaws.{entered_by, enters-none, gives-back-none, makes-room-none, sees-none}
 use Rattle.chv_ctl_mem.specs.BankChanges.{back_to, calls_made, is_bank, is_in_zone, one_more_place, AreChanged, HasRoom, MayMake}
 use Rattle.chv_ctl_mem.specs.ZoneCalls.{AreAsBefore}
 use Rattle.chv_ctl_mem.proofs.ChangeLaws.{changed-bank, changed-zone}

@@ -1,15 +1,15 @@
 -- What the steps of a control call leave in the banks: where a test holds they are changed, and all others are as before.
 use Rattle.std.specs.Prelude.{◌≡◌, ◌<◌, ℕ, ◌+◌, ◌-◌, ◌==◌, ◌&&◌, Bool, true, nat_lt, if◌then◌else◌, List, [], ◌∷◌, length, map, min, slice_get, Option, None, Some, Result, MatchResult}
 use Rattle.std.specs.List.{range_with_len}
-use Rattle.chv_defs.specs.declared.bank.BankCall.{BankCall}
-use Rattle.chv_defs.specs.declared.bank.BankCall.TheVariants as call
-use Rattle.chv_defs.specs.declared.bank.Refusal.{Refusal}
-use Rattle.chv_defs.specs.declared.config.ZoneConfig.{ZoneConfig}
-use Rattle.chv_defs.specs.AddressMap.{blocks_in}
-use Rattle.chv_defs.specs.BankBook.{pages_used, refused_or}
-use Rattle.chv_defs.specs.BankState.{banks, is_frozen, is_owner_call, IsCall}
-use Rattle.chv_defs.specs.OwnerCalls.{with_calls}
-use Rattle.chv_defs.specs.Zones.{first_due, zone_refusal, IsBank, Known, OwnerMayAsk}
+use Rattle.chv_defs_memory.specs.declared.bank.BankCall.{BankCall}
+use Rattle.chv_defs_memory.specs.declared.bank.BankCall.TheVariants as call
+use Rattle.chv_defs_memory.specs.declared.bank.Refusal.{Refusal}
+use Rattle.chv_defs_api.specs.declared.config.ZoneConfig.{ZoneConfig}
+use Rattle.chv_defs_base.specs.Sizes.{blocks_in}
+use Rattle.chv_defs_memory.specs.BankBook.{pages_used, refused_or}
+use Rattle.chv_defs_memory.specs.BankState.{banks, is_frozen, is_owner_call, IsCall}
+use Rattle.chv_defs_control.specs.OwnerCalls.{with_calls}
+use Rattle.chv_defs_memory.specs.Zones.{first_due, zone_refusal, IsBank, Known, OwnerMayAsk}
 use Rattle.chv_ctl_mem.specs.ZoneCalls.{AreAsBefore}
 
 -- Of the banks, those that pass a test are changed, by their zone's and their own number, and all others are as before.

@@ -1,14 +1,14 @@
 -- What a control call asks of the banks of the zones in effect, and what it leaves there.
 use Rattle.std.specs.Prelude.{◌≡◌, ◌<◌, ℕ, Bool, if◌then◌else◌, length, map, slice_get, Option, None, Some}
 use Rattle.std.specs.List.{range_with_len}
-use Rattle.chv_defs.specs.declared.bank.Refusal.{Refusal}
-use Rattle.chv_defs.specs.declared.config.ZoneConfig.{ZoneConfig}
-use Rattle.chv_defs.specs.declared.control.ControlCall.{ControlCall}
-use Rattle.chv_defs.specs.declared.control.ControlReply.TheVariants.{Done}
-use Rattle.chv_defs.specs.declared.machine.Machine.{Machine}
-use Rattle.chv_defs.specs.BankState.{banks, is_frozen}
-use Rattle.chv_defs.specs.OwnerCalls.{owner_calls, with_calls, zones_of}
-use Rattle.chv_defs.specs.Zones.{first_due, zone_refusal, IsBank, Known}
+use Rattle.chv_defs_memory.specs.declared.bank.Refusal.{Refusal}
+use Rattle.chv_defs_api.specs.declared.config.ZoneConfig.{ZoneConfig}
+use Rattle.chv_defs_api.specs.declared.control.ControlCall.{ControlCall}
+use Rattle.chv_defs_api.specs.declared.control.ControlReply.TheVariants.{Done}
+use Rattle.chv_defs_control.specs.declared.machine.Machine.{Machine}
+use Rattle.chv_defs_memory.specs.BankState.{banks, is_frozen}
+use Rattle.chv_defs_control.specs.OwnerCalls.{owner_calls, with_calls, zones_of}
+use Rattle.chv_defs_memory.specs.Zones.{first_due, zone_refusal, IsBank, Known}
 
 -- A bank at rest is frozen or not, and nothing is reserved there but the place that is kept for its Thaw while it is frozen.
 pub record IsAtRest (frozen : Bool) (known : Known) : Type 0 where

@@ -1,16 +1,18 @@
 // The memory at a boot.
 ghost use Rattle.std.specs.Prelude.{◌≡◌, [], true, false, length, IfOk, OnErr, MatchResult};
-ghost use Rattle.chv_defs.specs.AddressMap.{is_within_limits};
-ghost use Rattle.chv_defs.specs.BankBook.{refused_or};
-ghost use Rattle.chv_defs.specs.Machine.{HasChecked};
-ghost use Rattle.chv_defs.specs.declared.control.ControlCall.TheVariants.{Boot};
+ghost use Rattle.chv_addr.specs.AddressMap.{is_within_limits};
+ghost use Rattle.chv_defs_memory.specs.BankBook.{refused_or};
+ghost use Rattle.chv_defs_control.specs.Machine.{HasChecked};
+ghost use Rattle.chv_defs_api.specs.declared.control.ControlCall.TheVariants.{Boot};
 ghost use Rattle.chv_ctl_mem.specs.BankChanges.{is_in_zone_below, shaped, AreChanged, AreReady};
 ghost use Rattle.chv_ctl_mem.specs.ZoneCalls.{room_refusal_in_all, AreAsBefore, AreAtRest, HaveTheCalls};
 
 use crate::each::call_each_bank;
 use crate::room::{make_room, zones_in_effect};
 use chv_addr::blocks_in;
-use chv_defs::{BankCall, Machine, Refusal, ZoneConfig, Zones};
+use chv_defs_api::ZoneConfig;
+use chv_defs_control::Machine;
+use chv_defs_memory::{BankCall, Refusal, Zones};
 use std::alloc::AllocError;
 
 /// Opens the boot blocks of each zone in effect, in every bank of it, while no context is lent, and no bank of these zones is

@@ -1,10 +1,10 @@
 // Calls of the owner in the banks of a zone.
 ghost use Rattle.std.specs.Prelude.{◌≡◌, ◌<◌, ℕ, [], ◌∷◌};
-ghost use Rattle.chv_defs.specs.BankState.{banks};
-ghost use Rattle.chv_defs.specs.Zones.{most_zones, IsBank};
+ghost use Rattle.chv_defs_memory.specs.BankState.{banks};
+ghost use Rattle.chv_defs_memory.specs.Zones.{most_zones, IsBank};
 ghost use Rattle.chv_ctl_mem.specs.BankChanges.{calls_made, is_bank, is_in_zone, AreChanged, MayMake};
 
-use chv_defs::{BANKS, BankCall, Zones};
+use chv_defs_memory::{BANKS, BankCall, Zones};
 
 /// Makes a call of the owner in each bank of a zone, while no context is lent. An entry is reserved for it in each.
 pub fn call_each_bank<R: Copy, Z: Zones<R>>(rt: R, zones: &mut Z, zone: u8, call: &BankCall)

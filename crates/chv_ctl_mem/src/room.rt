@@ -1,14 +1,16 @@
 // Room in the zones in effect.
 ghost use Rattle.std.specs.Prelude.{◌≡◌, ◌<◌, ◌≤◌, ℕ, [], true, IfOk, OnErr};
-ghost use Rattle.chv_defs.specs.AddressMap.{is_within_limits};
-ghost use Rattle.chv_defs.specs.BankState.{banks};
-ghost use Rattle.chv_defs.specs.Machine.{HasChecked};
-ghost use Rattle.chv_defs.specs.OwnerCalls.{zones_of};
-ghost use Rattle.chv_defs.specs.Zones.{most_zones, zone_refusal};
+ghost use Rattle.chv_addr.specs.AddressMap.{is_within_limits};
+ghost use Rattle.chv_defs_memory.specs.BankState.{banks};
+ghost use Rattle.chv_defs_control.specs.Machine.{HasChecked};
+ghost use Rattle.chv_defs_control.specs.OwnerCalls.{zones_of};
+ghost use Rattle.chv_defs_memory.specs.Zones.{most_zones, zone_refusal};
 ghost use Rattle.chv_ctl_mem.specs.BankChanges.{back_to, is_in_zone, is_in_zone_below, refusal_below, AreChanged, HasRoom, HavePlaces};
 ghost use Rattle.chv_ctl_mem.specs.ZoneCalls.{AreAsBefore};
 
-use chv_defs::{Machine, Refusal, ZoneConfig, Zones};
+use chv_defs_api::ZoneConfig;
+use chv_defs_control::Machine;
+use chv_defs_memory::{Refusal, Zones};
 use std::alloc::AllocError;
 
 /// The zones in effect: without a configuration there are none.

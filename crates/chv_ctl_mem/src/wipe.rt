@@ -1,18 +1,19 @@
 // The memory at a shutdown or a delete.
 ghost use Rattle.std.specs.Prelude.{◌≡◌, ◌<◌, ◌≤◌, ℕ, [], length, IfOk, OnErr, MatchResult};
-ghost use Rattle.chv_defs.specs.ApiStep.{is_paused};
-ghost use Rattle.chv_defs.specs.BankBook.{refused_or};
-ghost use Rattle.chv_defs.specs.BankState.{banks};
-ghost use Rattle.chv_defs.specs.Machine.{HasChecked};
-ghost use Rattle.chv_defs.specs.Zones.{most_zones};
-ghost use Rattle.chv_defs.specs.declared.control.Goal.TheVariants.{Delete};
-ghost use Rattle.chv_defs.specs.declared.control.ControlCall.TheVariants.{Begin};
+ghost use Rattle.chv_defs_control.specs.ApiStep.{is_paused};
+ghost use Rattle.chv_defs_memory.specs.BankBook.{refused_or};
+ghost use Rattle.chv_defs_memory.specs.BankState.{banks};
+ghost use Rattle.chv_defs_control.specs.Machine.{HasChecked};
+ghost use Rattle.chv_defs_memory.specs.Zones.{most_zones};
+ghost use Rattle.chv_defs_api.specs.declared.control.Goal.TheVariants.{Delete};
+ghost use Rattle.chv_defs_api.specs.declared.control.ControlCall.TheVariants.{Begin};
 ghost use Rattle.chv_ctl_mem.specs.BankChanges.{calls_made, is_in_zone, is_in_zone_below, wipe_calls, AreChanged, AreReady, IsReady};
 ghost use Rattle.chv_ctl_mem.specs.ZoneCalls.{room_refusal_in_all, AreAsBefore, AreAtRest, HaveTheCalls};
 
 use crate::each::call_each_bank;
 use crate::room::{make_room, zones_in_effect};
-use chv_defs::{BankCall, Life, Machine, Refusal, Zones};
+use chv_defs_control::{Life, Machine};
+use chv_defs_memory::{BankCall, Refusal, Zones};
 use std::alloc::AllocError;
 
 /// Closes every block of the zones in effect, while no context is lent and nothing is reserved there but the place that is kept

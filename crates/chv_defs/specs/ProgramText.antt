@@ -1,12 +1,12 @@
 -- The words of the program's command line, and the line that it writes with each status that has one. Both are this
 -- project's own.
 use Rattle.std.specs.Prelude.{ℕ, List, [], ◌∷◌, ◌++◌, codes}
-use Rattle.chv_defs.specs.Numbers.{dec_text}
-use Rattle.chv_defs.specs.Reasons.{reason_name}
-use Rattle.chv_defs.specs.ScriptText.{field}
+use Rattle.chv_defs_base.specs.Numbers.{dec_text}
+use Rattle.chv_defs_base.specs.Reasons.{reason_name}
+use Rattle.chv_defs_scene.specs.ScriptText.{field}
 use Rattle.chv_defs.specs.TraceText.{book_text}
-use Rattle.chv_defs.specs.declared.bank.Full.{Full}
-use Rattle.chv_defs.specs.declared.rule.Reason.{Reason}
+use Rattle.chv_defs_base.specs.declared.book.Full.{Full}
+use Rattle.chv_defs_base.specs.declared.rule.Reason.{Reason}
 
 -- the word that plays a scenario on one thread
 abbrev pub play_words : List (List ℕ)

@@ -2,27 +2,27 @@
 -- that `play` gives, or the first book that is full.
 use Rattle.std.specs.Prelude.{ℕ, zero, suc, ◌+◌, ◌==◌, ◌&&◌, Bool, true, false, nat_lt, nat_le, max, if◌then◌else◌, List, [], ◌∷◌, ◌++◌, length, take, drop, map, filter, flat_map, slice_get, Option, None, Some, Result, Ok, Err}
 use Rattle.std.specs.List.{filter_map, range_with_len, enumerate_from}
-use Rattle.chv_defs.specs.declared.rule.Rule.{Rule}
-use Rattle.chv_defs.specs.declared.bank.Full.{Full}
-use Rattle.chv_defs.specs.declared.request.Took.{Took}
-use Rattle.chv_defs.specs.declared.request.Took.TheVariants as took
-use Rattle.chv_defs.specs.declared.machine.Machine.{Machine}
-use Rattle.chv_defs.specs.declared.scene.Asked.{Asked}
-use Rattle.chv_defs.specs.declared.scene.OnShelf.{OnShelf}
-use Rattle.chv_defs.specs.declared.control.ControlCall.{ControlCall}
-use Rattle.chv_defs.specs.declared.control.ControlCall.TheVariants as call
-use Rattle.chv_defs.specs.declared.control.ControlEntry.{ControlEntry}
-use Rattle.chv_defs.specs.declared.session.SessionEnd.{SessionEnd}
-use Rattle.chv_defs.specs.declared.session.SessionEnd.TheVariants as end
+use Rattle.chv_defs_base.specs.declared.rule.Rule.{Rule}
+use Rattle.chv_defs_base.specs.declared.book.Full.{Full}
+use Rattle.chv_defs_api.specs.declared.request.Took.{Took}
+use Rattle.chv_defs_api.specs.declared.request.Took.TheVariants as took
+use Rattle.chv_defs_control.specs.declared.machine.Machine.{Machine}
+use Rattle.chv_defs_scene.specs.declared.scene.Asked.{Asked}
+use Rattle.chv_defs_api.specs.declared.shelf.OnShelf.{OnShelf}
+use Rattle.chv_defs_api.specs.declared.control.ControlCall.{ControlCall}
+use Rattle.chv_defs_api.specs.declared.control.ControlCall.TheVariants as call
+use Rattle.chv_defs_api.specs.declared.control.ControlEntry.{ControlEntry}
+use Rattle.chv_defs_api.specs.declared.session.SessionEnd.{SessionEnd}
+use Rattle.chv_defs_api.specs.declared.session.SessionEnd.TheVariants as end
 use Rattle.chv_defs.specs.declared.trace.Trace.{Trace}
 use Rattle.chv_defs.specs.declared.trace.SessionTrace.{SessionTrace}
-use Rattle.chv_defs.specs.Machine.{empty_machine}
-use Rattle.chv_defs.specs.ApiStep.{reply_to, after}
-use Rattle.chv_defs.specs.ControlBook.{full_at}
-use Rattle.chv_defs.specs.SceneText.{request_bytes}
-use Rattle.chv_defs.specs.SessionBytes.{asks_for, session_limit}
-use Rattle.chv_defs.specs.StreamCut.{cut}
-use Rattle.chv_defs.specs.Routes.{call_of_request, reply_to_call, refusal_bytes}
+use Rattle.chv_defs_control.specs.Machine.{empty_machine}
+use Rattle.chv_defs_control.specs.ApiStep.{reply_to, after}
+use Rattle.chv_defs_control.specs.ControlBook.{full_at}
+use Rattle.chv_defs_scene.specs.SceneText.{request_bytes}
+use Rattle.chv_defs_api.specs.SessionBytes.{asks_for, session_limit}
+use Rattle.chv_defs_api.specs.StreamCut.{cut}
+use Rattle.chv_defs_api.specs.Routes.{call_of_request, reply_to_call, refusal_bytes}
 
 -- ---- a session at its stream
 

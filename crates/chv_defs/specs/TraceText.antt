@@ -1,52 +1,47 @@
 -- The text of a trace, in a format of this project's own: what is printed of everything that happened in a run.
 use Rattle.std.specs.Prelude.{ℕ, ◌+◌, Bool, true, false, List, [], ◌∷◌, ◌++◌, length, sum_by, flat_map, codes, Option, None, Some}
-use Rattle.serde_json.specs.Data.{string}
-use Rattle.serde_json.specs.Written.{compact_text}
-use Rattle.chv_defs.specs.Numbers.{dec_text, hex_text, pairs}
-use Rattle.chv_defs.specs.JsonTexts.{config_text, disk_text, info_text, counters_text, device_text}
-use Rattle.chv_defs.specs.Rules.{rule_name}
-use Rattle.chv_defs.specs.ScriptText.{field}
-use Rattle.chv_defs.specs.SceneText.{disk_line, vcpu_section}
-use Rattle.chv_defs.specs.declared.bank.Span.{Span}
-use Rattle.chv_defs.specs.declared.bank.BookId.{BookId}
-use Rattle.chv_defs.specs.declared.bank.BookId.TheVariants as book
-use Rattle.chv_defs.specs.declared.bank.BankCall.{BankCall}
-use Rattle.chv_defs.specs.declared.bank.BankCall.TheVariants as bank
-use Rattle.chv_defs.specs.declared.bank.BankReply.{BankReply}
-use Rattle.chv_defs.specs.declared.bank.BankReply.TheVariants as banked
-use Rattle.chv_defs.specs.declared.bank.BankEntry.{BankEntry}
-use Rattle.chv_defs.specs.declared.register.RegAccess.{RegAccess}
-use Rattle.chv_defs.specs.declared.register.RegAccess.TheVariants as access
-use Rattle.chv_defs.specs.declared.context.ContextNote.{ContextNote}
-use Rattle.chv_defs.specs.declared.context.ContextNote.TheVariants as note
-use Rattle.chv_defs.specs.declared.context.SliceEnd.{SliceEnd}
-use Rattle.chv_defs.specs.declared.context.SliceEnd.TheVariants as end
-use Rattle.chv_defs.specs.declared.context.QueueFault.{QueueFault}
-use Rattle.chv_defs.specs.declared.context.QueueFault.TheVariants as fault
-use Rattle.chv_defs.specs.declared.rule.Rule.{Rule}
-use Rattle.chv_defs.specs.declared.rule.Rule.TheVariants.{BadImage}
-use Rattle.chv_defs.specs.declared.control.Goal.{Goal}
-use Rattle.chv_defs.specs.declared.control.Goal.TheVariants as goal
-use Rattle.chv_defs.specs.declared.control.Role.{Role}
-use Rattle.chv_defs.specs.declared.control.Role.TheVariants as role
-use Rattle.chv_defs.specs.declared.control.BusyAt.{BusyAt}
-use Rattle.chv_defs.specs.declared.control.ControlCall.{ControlCall}
-use Rattle.chv_defs.specs.declared.control.ControlCall.TheVariants as call
-use Rattle.chv_defs.specs.declared.control.ControlReply.{ControlReply}
-use Rattle.chv_defs.specs.declared.control.ControlReply.TheVariants as reply
-use Rattle.chv_defs.specs.declared.control.ControlEntry.{ControlEntry}
-use Rattle.chv_defs.specs.declared.session.SessionEnd.{SessionEnd}
-use Rattle.chv_defs.specs.declared.session.SessionEnd.TheVariants as session
-use Rattle.chv_defs.specs.declared.scene.VcpuSection.{VcpuSection}
+use Rattle.chv_defs_base.specs.Numbers.{dec_text, hex_text, pairs}
+use Rattle.chv_defs_api.specs.JsonTexts.{config_text, disk_text, info_text, counters_text, device_text}
+use Rattle.chv_defs_base.specs.Rules.{rule_name}
+use Rattle.chv_defs_scene.specs.ScriptText.{field}
+use Rattle.chv_defs_scene.specs.SceneText.{disk_line, vcpu_section}
+use Rattle.chv_defs_memory.specs.declared.bank.Span.{Span}
+use Rattle.chv_defs_base.specs.declared.book.BookId.{BookId}
+use Rattle.chv_defs_base.specs.declared.book.BookId.TheVariants as book
+use Rattle.chv_defs_memory.specs.declared.bank.BankCall.{BankCall}
+use Rattle.chv_defs_memory.specs.declared.bank.BankCall.TheVariants as bank
+use Rattle.chv_defs_memory.specs.declared.bank.BankReply.{BankReply}
+use Rattle.chv_defs_memory.specs.declared.bank.BankReply.TheVariants as banked
+use Rattle.chv_defs_memory.specs.declared.bank.BankEntry.{BankEntry}
+use Rattle.chv_defs_api.specs.declared.register.RegAccess.{RegAccess}
+use Rattle.chv_defs_api.specs.declared.register.RegAccess.TheVariants as access
+use Rattle.chv_defs_api.specs.declared.context.ContextNote.{ContextNote}
+use Rattle.chv_defs_api.specs.declared.context.ContextNote.TheVariants as note
+use Rattle.chv_defs_api.specs.declared.context.SliceEnd.{SliceEnd}
+use Rattle.chv_defs_api.specs.declared.context.SliceEnd.TheVariants as end
+use Rattle.chv_defs_api.specs.declared.context.QueueFault.{QueueFault}
+use Rattle.chv_defs_api.specs.declared.context.QueueFault.TheVariants as fault
+use Rattle.chv_defs_base.specs.declared.rule.Rule.{Rule}
+use Rattle.chv_defs_base.specs.declared.rule.Rule.TheVariants.{BadImage}
+use Rattle.chv_defs_api.specs.declared.control.Goal.{Goal}
+use Rattle.chv_defs_api.specs.declared.control.Goal.TheVariants as goal
+use Rattle.chv_defs_api.specs.declared.control.Role.{Role}
+use Rattle.chv_defs_api.specs.declared.control.Role.TheVariants as role
+use Rattle.chv_defs_api.specs.declared.control.BusyAt.{BusyAt}
+use Rattle.chv_defs_api.specs.declared.control.ControlCall.{ControlCall}
+use Rattle.chv_defs_api.specs.declared.control.ControlCall.TheVariants as call
+use Rattle.chv_defs_api.specs.declared.control.ControlReply.{ControlReply}
+use Rattle.chv_defs_api.specs.declared.control.ControlReply.TheVariants as reply
+use Rattle.chv_defs_api.specs.declared.control.ControlEntry.{ControlEntry}
+use Rattle.chv_defs_api.specs.declared.session.SessionEnd.{SessionEnd}
+use Rattle.chv_defs_api.specs.declared.session.SessionEnd.TheVariants as session
+use Rattle.chv_defs_scene.specs.declared.scene.VcpuSection.{VcpuSection}
 use Rattle.chv_defs.specs.declared.trace.Trace.{Trace}
 use Rattle.chv_defs.specs.declared.trace.BankTrace.{BankTrace}
 use Rattle.chv_defs.specs.declared.trace.SessionTrace.{SessionTrace}
+use Rattle.chv_defs_api.specs.JsonTexts.{quoted}
 
 -- ---- fields
-
--- a text as a JSON string (RFC 8259, 7)
-abbrev pub quoted : List ℕ → List ℕ
-quoted text = compact_text (string text)
 
 -- bytes in pairs of hexadecimal digits, or a dash where there is none
 abbrev pub pairs_or_dash : List ℕ → List ℕ

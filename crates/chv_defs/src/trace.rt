@@ -1,5 +1,8 @@
 // Everything that happened in a run.
-use crate::{BankEntry, ControlEntry, MadeDisk, Row, SessionLog, VcpuSection};
+use chv_defs_api::{ControlEntry, SessionLog};
+use chv_defs_base::Row;
+use chv_defs_memory::BankEntry;
+use chv_defs_scene::{MadeDisk, VcpuSection};
 
 /// A run: the disks and scripts of its scenario, the history of the control book and of each bank that
 /// has entries, zones and banks ascending, and what each session took and put.

@@ -5,11 +5,11 @@ use Rattle.std.specs.declared.alloc.AllocError.{AllocError}
 use Rattle.std.proofs.lemmas.Bool.Decides.{nat_tests}
 use Rattle.std.proofs.lemmas.List.{append-nil, length-map, length-take-le, length-drop, get_or-map, get_or-take, get_or-drop}
 use Rattle.std.proofs.lemmas.List.FromFn.{fill_by_all}
-use Rattle.chv_defs.specs.declared.bank.BankEntry.{BankEntry}
-use Rattle.chv_defs.specs.declared.bank.Refusal.{Refusal}
-use Rattle.chv_defs.specs.BankState.{banks}
-use Rattle.chv_defs.specs.BankBook.{BankBook, fresh, refused_or, room_refusal}
-use Rattle.chv_defs.specs.Zones.{book_of, first_due, most_zones, zone_refusal, GivesBack, GoesOn, Known, MakesRoom, OtherZonesStay}
+use Rattle.chv_defs_memory.specs.declared.bank.BankEntry.{BankEntry}
+use Rattle.chv_defs_memory.specs.declared.bank.Refusal.{Refusal}
+use Rattle.chv_defs_memory.specs.BankState.{banks}
+use Rattle.chv_defs_memory.specs.BankBook.{BankBook, fresh, refused_or, room_refusal}
+use Rattle.chv_defs_memory.specs.Zones.{book_of, first_due, most_zones, zone_refusal, GivesBack, GoesOn, Known, MakesRoom, OtherZonesStay}
 use Rattle.chv_guest.specs.LentBanks.{bank_at, banks_of, change_zone, known_at, AreAllBanks}
 use Rattle.chv_guest.specs.Room.{is_made, keep_places, refusal_in, with_places}
 use Rattle.chv_guest.proofs.ZoneBanks.{bank-known, bank_at-changed, bank_at-other, zone-fits, zone-known, AreAllBanks-changed, KeepsBook}

@@ -1,13 +1,13 @@
 -- A history with entries of the owner alone.
 use Rattle.std.proofs.Common.{◌≡◌, ℕ, ◌==◌, ◌&&◌, Bool, true, false, List, [], ◌∷◌, Option, None, ap, ◌∙◌, refl}
 use Rattle.std.specs.List.{list_all}
-use Rattle.chv_defs.specs.declared.bank.BankCall.{BankCall}
-use Rattle.chv_defs.specs.declared.bank.BankCall.TheVariants as call
-use Rattle.chv_defs.specs.declared.bank.BankReply.{BankReply}
-use Rattle.chv_defs.specs.declared.bank.BankEntry.{BankEntry}
-use Rattle.chv_defs.specs.BankState.{is_owner_call, pin_made, pins_of, unless_given_back, PinOut}
-use Rattle.chv_defs.specs.LegalBank.{OwnerMay}
-use Rattle.chv_defs.specs.Zones.{OwnerMayAsk}
+use Rattle.chv_defs_memory.specs.declared.bank.BankCall.{BankCall}
+use Rattle.chv_defs_memory.specs.declared.bank.BankCall.TheVariants as call
+use Rattle.chv_defs_memory.specs.declared.bank.BankReply.{BankReply}
+use Rattle.chv_defs_memory.specs.declared.bank.BankEntry.{BankEntry}
+use Rattle.chv_defs_memory.specs.BankState.{is_owner_call, pin_made, pins_of, unless_given_back, PinOut}
+use Rattle.chv_defs_memory.specs.LegalBank.{OwnerMay}
+use Rattle.chv_defs_memory.specs.Zones.{OwnerMayAsk}
 use Rattle.chv_guest.specs.LentBanks.{is_own}
 
 -- both of two

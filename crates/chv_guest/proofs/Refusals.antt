@@ -4,9 +4,9 @@ use Rattle.std.specs.declared.alloc.AllocError.{AllocError}
 use Rattle.std.specs.List.{All}
 use Rattle.std.proofs.lemmas.List.{at_drop_more, take-append-drop, set-get_or, length-map, length-take-le, get_or-append_right, get_or-drop, take_at, drop_at}
 use Rattle.std.proofs.lemmas.List.Elements.{All-head, All-tail, All-take}
-use Rattle.chv_defs.specs.declared.bank.Refusal.{Refusal}
-use Rattle.chv_defs.specs.BankBook.{BankBook, refused_or, room_refusal}
-use Rattle.chv_defs.specs.Zones.{first_due}
+use Rattle.chv_defs_memory.specs.declared.bank.Refusal.{Refusal}
+use Rattle.chv_defs_memory.specs.BankBook.{BankBook, refused_or, room_refusal}
+use Rattle.chv_defs_memory.specs.Zones.{first_due}
 use Rattle.chv_guest.specs.Room.{is_made, refusal_in, with_places, without_places}
 
 -- what an answer says of the refusal that was due

@@ -6,10 +6,10 @@ use Rattle.std.proofs.lemmas.Nat.{mul-add-lt, div-mul-add, mod-mul-add}
 use Rattle.std.proofs.lemmas.List.{length-take, length-take-le, length-map, length-drop, length-append, get_or-append_right, get_or_append_left, get_or-map, get_or-take, get_or-drop, get_or_default, get_or-set_same}
 use Rattle.std.proofs.lemmas.List.FromFn.{length-map-range_with_len, get_or-map-range_with_len}
 use Rattle.std.proofs.Math.Nat.{mul-le-mul_right}
-use Rattle.chv_defs.specs.declared.bank.BankEntry.{BankEntry}
-use Rattle.chv_defs.specs.BankState.{banks}
-use Rattle.chv_defs.specs.BankBook.{BankBook, fresh}
-use Rattle.chv_defs.specs.Zones.{most_zones}
+use Rattle.chv_defs_memory.specs.declared.bank.BankEntry.{BankEntry}
+use Rattle.chv_defs_memory.specs.BankState.{banks}
+use Rattle.chv_defs_memory.specs.BankBook.{BankBook, fresh}
+use Rattle.chv_defs_memory.specs.Zones.{most_zones}
 use Rattle.chv_guest.specs.LentBanks.{bank_at, bank_count, change_zone, fresh_at, fresh_banks, is_own, AreAllBanks, IsBankAt}
 
 -- ---- lists, a part of which is changed

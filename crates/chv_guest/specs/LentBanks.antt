@@ -1,10 +1,10 @@
 -- The banks of all zones in one list: those of zone 0, then those of zone 1, and so on.
 use Rattle.std.specs.Prelude.{◌≡◌, ◌<◌, ℕ, ◌+◌, ◌*◌, ◌/◌, ◌%◌, ◌==◌, ◌&&◌, Bool, true, List, ◌++◌, length, map, get_or, take, drop}
 use Rattle.std.specs.List.{list_all, range_with_len}
-use Rattle.chv_defs.specs.declared.bank.BankEntry.{BankEntry}
-use Rattle.chv_defs.specs.BankState.{banks, is_owner_call}
-use Rattle.chv_defs.specs.BankBook.{BankBook, fresh}
-use Rattle.chv_defs.specs.Zones.{most_zones, Known}
+use Rattle.chv_defs_memory.specs.declared.bank.BankEntry.{BankEntry}
+use Rattle.chv_defs_memory.specs.BankState.{banks, is_owner_call}
+use Rattle.chv_defs_memory.specs.BankBook.{BankBook, fresh}
+use Rattle.chv_defs_memory.specs.Zones.{most_zones, Known}
 
 -- how many banks there are
 abbrev pub bank_count : ℕ

@@ -1,9 +1,9 @@
 -- Room in some banks.
 use Rattle.std.specs.Prelude.{ℕ, ◌+◌, ◌-◌, Bool, true, false, List, map, min, Option, Result, Ok, Err}
 use Rattle.std.specs.declared.alloc.AllocError.{AllocError}
-use Rattle.chv_defs.specs.declared.bank.Refusal.{Refusal}
-use Rattle.chv_defs.specs.BankBook.{BankBook, room_refusal}
-use Rattle.chv_defs.specs.Zones.{first_due}
+use Rattle.chv_defs_memory.specs.declared.bank.Refusal.{Refusal}
+use Rattle.chv_defs_memory.specs.BankBook.{BankBook, room_refusal}
+use Rattle.chv_defs_memory.specs.Zones.{first_due}
 
 -- a bank with room for further entries, and for pages
 abbrev pub with_places : ℕ → ℕ → BankBook → BankBook

@@ -1,14 +1,13 @@
 // The banks of all zones on one thread.
 ghost use Rattle.std.specs.Prelude.{◌≡◌, ◌<◌, [], IfOk};
-ghost use Rattle.chv_defs.specs.LegalBank.{IsLegal};
-ghost use Rattle.chv_defs.specs.Zones.{most_zones, IsBank};
+ghost use Rattle.chv_defs_memory.specs.LegalBank.{IsLegal};
+ghost use Rattle.chv_defs_memory.specs.Zones.{most_zones, IsBank};
 ghost use Rattle.chv_guest.specs.LentBanks.{bank_at, fresh_banks, known_at, AreAllBanks};
 
 use crate::room::{keep_room, make_room, place_of};
 use chv_bank::Bank;
-use chv_defs::{
-    BANKS, BankCall, BankEntry, BankReply, Banked, MOST_ZONES, PageAt, Refusal, Row, Zones,
-};
+use chv_defs_base::{MOST_ZONES, Row};
+use chv_defs_memory::{BANKS, BankCall, BankEntry, BankReply, Banked, PageAt, Refusal, Zones};
 use std::alloc::{AllocError, Global};
 use std::marker::Model;
 
@@ -24,7 +23,7 @@ pub struct LentBanks {
 
 impl Model for LentBanks {
     ghost use Rattle.std.specs.Prelude.{List};
-    ghost use Rattle.chv_defs.specs.BankBook.{BankBook};
+    ghost use Rattle.chv_defs_memory.specs.BankBook.{BankBook};
     ghost use Rattle.chv_guest.specs.LentBanks.{AreAllBanks};
 
     ghost Value = { List BankBook };

@@ -1,12 +1,12 @@
 // Room in the banks of a zone.
 ghost use Rattle.std.specs.Prelude.{◌≡◌, ◌<◌, ◌≤◌, ◌+◌, ◌*◌, if◌then◌else◌, All, IfOk, length, map};
-ghost use Rattle.chv_defs.specs.BankBook.{refused_or, BankBook};
-ghost use Rattle.chv_defs.specs.BankState.{banks};
+ghost use Rattle.chv_defs_memory.specs.BankBook.{refused_or, BankBook};
+ghost use Rattle.chv_defs_memory.specs.BankState.{banks};
 ghost use Rattle.chv_guest.specs.LentBanks.{banks_of, change_zone, place_of};
 ghost use Rattle.chv_guest.specs.Room.{is_made, keep_places, refusal_in, with_places, without_places};
 
 use chv_bank::Bank;
-use chv_defs::{BANKS, Refusal};
+use chv_defs_memory::{BANKS, Refusal};
 use std::alloc::AllocError;
 
 // The place of a bank.

@@ -2,13 +2,13 @@
 use Rattle.std.proofs.Common.{◌≡◌, ℕ, ◌+◌, ◌≤◌, Bool, true, false, nat_lt, cond, List, length, take, drop, Option, Some, None, Result, Ok, Err, refl, inl, inr}
 use Rattle.std.proofs.lemmas.Bool.{ltb-true, ltb-false}
 use Rattle.httparse.specs.Grammar.{RequestHead}
-use Rattle.chv_defs.specs.declared.rule.Rule.{Rule}
-use Rattle.chv_defs.specs.declared.rule.Rule.TheVariants.{BadHead}
-use Rattle.chv_defs.specs.declared.request.Took.{Took}
-use Rattle.chv_defs.specs.declared.request.Took.TheVariants as took
-use Rattle.chv_defs.specs.HttpFront.{IsFront, HasNoFront}
-use Rattle.chv_defs.specs.Requests.{fields_of, body_length, request_of, HasHead, Cuts}
-use Rattle.chv_defs.specs.StreamCut.{front_end, head_of, cut_body, cut_head, cut_front, cut}
+use Rattle.chv_defs_base.specs.declared.rule.Rule.{Rule}
+use Rattle.chv_defs_base.specs.declared.rule.Rule.TheVariants.{BadHead}
+use Rattle.chv_defs_api.specs.declared.request.Took.{Took}
+use Rattle.chv_defs_api.specs.declared.request.Took.TheVariants as took
+use Rattle.chv_defs_api.specs.HttpFront.{IsFront, HasNoFront}
+use Rattle.chv_defs_api.specs.Requests.{fields_of, body_length, request_of, HasHead, Cuts}
+use Rattle.chv_defs_api.specs.StreamCut.{front_end, head_of, cut_body, cut_head, cut_front, cut}
 use Rattle.chv_http.proofs.FrontEndLemmas.{end_is, end_is_none}
 use Rattle.chv_http.proofs.ReadingLemmas.{head_found, head_sound}
 

@@ -3,13 +3,13 @@ use Rattle.std.proofs.Common.{◌≡◌, ℕ, ◌+◌, ◌≤◌, ◌⊎◌, Lis
 use Rattle.std.proofs.lemmas.List.{take-append-le, drop-append-le}
 use Rattle.httparse.specs.Grammar.{RequestHead, ReadsRequest}
 use Rattle.httparse.proofs.GrammarLemmas.{request_unique}
-use Rattle.chv_defs.specs.declared.rule.Rule.{Rule}
-use Rattle.chv_defs.specs.declared.rule.Rule.TheVariants.{BadHead}
-use Rattle.chv_defs.specs.declared.request.Request.{Request}
-use Rattle.chv_defs.specs.declared.request.Took.{Took}
-use Rattle.chv_defs.specs.declared.request.Took.TheVariants as took
-use Rattle.chv_defs.specs.HttpFront.{HasNoFront}
-use Rattle.chv_defs.specs.Requests.{fields_of, body_length, request_of, HasHead, Announces, BeginsWith, IsShort, HasBadHead, HasBadFields, Cuts, CutsInto}
+use Rattle.chv_defs_base.specs.declared.rule.Rule.{Rule}
+use Rattle.chv_defs_base.specs.declared.rule.Rule.TheVariants.{BadHead}
+use Rattle.chv_defs_api.specs.declared.request.Request.{Request}
+use Rattle.chv_defs_api.specs.declared.request.Took.{Took}
+use Rattle.chv_defs_api.specs.declared.request.Took.TheVariants as took
+use Rattle.chv_defs_api.specs.HttpFront.{HasNoFront}
+use Rattle.chv_defs_api.specs.Requests.{fields_of, body_length, request_of, HasHead, Announces, BeginsWith, IsShort, HasBadHead, HasBadFields, Cuts, CutsInto}
 use Rattle.chv_http.specs.Laws.{BeginsWithNone}
 use Rattle.chv_http.proofs.FrontLemmas.{closes_within, closes_back, front_append, front_is_one}
 

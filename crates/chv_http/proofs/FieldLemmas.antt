@@ -3,7 +3,7 @@ use Rattle.std.proofs.Common.{◌≡◌, ℕ, ◌<◌, true, false, cond, List, 
 use Rattle.std.proofs.Math.Seq.{drop-cons}
 use Rattle.httparse.specs.declared.spans.HeaderSpan.{HeaderSpan}
 use Rattle.httparse.specs.Spans.{header_bytes}
-use Rattle.chv_defs.specs.Requests.{Field, is_named, values, announced_length}
+use Rattle.chv_defs_api.specs.Requests.{Field, is_named, values, announced_length}
 
 values_cons : (name : List ℕ) (field : Field) (fields : List Field)
     → values name (field ∷ fields) ≡ cond (is_named name field) (field.1 ∷ values name fields) (values name fields)

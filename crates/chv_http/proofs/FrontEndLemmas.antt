@@ -4,8 +4,8 @@ use Rattle.std.proofs.Math.Nat.{eq-or-lt_of_le}
 use Rattle.std.proofs.lemmas.Bool.{eqb-true, eq-eqb, leb-true, le-leb, cases_lt}
 use Rattle.std.proofs.lemmas.List.{get_or-take, length-take}
 use Rattle.std.specs.List.{list_any, range_with_len}
-use Rattle.chv_defs.specs.HttpFront.{IsBehindText, Closes, IsFront, HasNoFront}
-use Rattle.chv_defs.specs.StreamCut.{is_text, closes, front_end}
+use Rattle.chv_defs_api.specs.HttpFront.{IsBehindText, Closes, IsFront, HasNoFront}
+use Rattle.chv_defs_api.specs.StreamCut.{is_text, closes, front_end}
 use Rattle.chv_http.proofs.LineLemmas.{both, other}
 use Rattle.chv_http.proofs.FrontLemmas.{inside}
 

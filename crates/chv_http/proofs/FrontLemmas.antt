@@ -2,7 +2,7 @@
 use Rattle.std.proofs.Common.{◌≡◌, ℕ, ◌+◌, ◌<◌, ◌≤◌, ◌⊎◌, List, ◌++◌, length, get_or, sym, ◌∙◌, subst, inl, inr, arith}
 use Rattle.std.proofs.lemmas.Bool.{cases_lt}
 use Rattle.std.proofs.lemmas.List.{get_or_append_left, get_or_past}
-use Rattle.chv_defs.specs.HttpFront.{IsEmptyLine, IsBehindText, Closes, IsFront}
+use Rattle.chv_defs_api.specs.HttpFront.{IsEmptyLine, IsBehindText, Closes, IsFront}
 
 -- what does not read 0 lies inside the bytes
 pub inside : (bytes : List ℕ) (k x : ℕ) → get_or bytes k 0 ≡ x → 0 < x → k < length bytes

@@ -3,8 +3,8 @@ use Rattle.std.proofs.Common.{◌≡◌, ℕ, ◌-◌, ◌≤◌, ◌||◌, ◌=
 use Rattle.std.proofs.lemmas.List.{take-append-le, drop-append-le, take-append-drop}
 use Rattle.std.specs.List.{list_any}
 use Rattle.httparse.specs.Grammar.{RequestHead}
-use Rattle.chv_defs.specs.declared.request.Request.{Request}
-use Rattle.chv_defs.specs.Requests.{request_of, fields_of, asks_to_close}
+use Rattle.chv_defs_api.specs.declared.request.Request.{Request}
+use Rattle.chv_defs_api.specs.Requests.{request_of, fields_of, asks_to_close}
 
 slice_of_front : (front rest : List ℕ) (start end : ℕ) → start ≤ end → end ≤ length front
     → slice_range (front ++ rest) start end ≡ slice_range front start end

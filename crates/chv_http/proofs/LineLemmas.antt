@@ -6,7 +6,7 @@ use Rattle.std.proofs.lemmas.List.Sums.{list_all-from_AllPass}
 use Rattle.std.specs.List.{list_all}
 use Rattle.httparse.specs.Grammar.{LineEnd, crlf, lf, print_end, print_blank, print_version, Field, print_field, IsField, print_section, RequestHead, print_request, IsRequestHead, is_token_byte, is_uri_byte, is_value_byte, AllPass}
 use Rattle.httparse.proofs.GrammarLemmas.{print_request-append}
-use Rattle.chv_defs.specs.StreamCut.{Line, onto_line, lines_of, before, behind, field_of, fields_in, last_end, parts_of}
+use Rattle.chv_defs_api.specs.StreamCut.{Line, onto_line, lines_of, before, behind, field_of, fields_in, last_end, parts_of}
 
 pub both : (a b : Bool) → (a && b) ≡ true → (a ≡ true) × (b ≡ true)
 both true b e = (refl, e)

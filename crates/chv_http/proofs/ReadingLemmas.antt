@@ -8,7 +8,7 @@ use Rattle.std.proofs.lemmas.Str.{IsUtf8-from_is_utf8, is_utf8-from_IsUtf8}
 use Rattle.std.specs.List.{list_all}
 use Rattle.std.specs.Str.{is_utf8}
 use Rattle.httparse.specs.Grammar.{Field, IsField, RequestHead, IsRequestHead, print_request, IsToken, is_token, is_token_byte, is_uri_byte, is_value_byte}
-use Rattle.chv_defs.specs.StreamCut.{parts_of, lines_of, is_field, is_request_head, head_of}
+use Rattle.chv_defs_api.specs.StreamCut.{parts_of, lines_of, is_field, is_request_head, head_of}
 use Rattle.chv_http.specs.Head.{IsHead}
 use Rattle.chv_http.proofs.LineLemmas.{both, head_again}
 

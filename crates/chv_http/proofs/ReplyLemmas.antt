@@ -3,7 +3,7 @@ use Rattle.std.proofs.Common.{◌≡◌, ℕ, ◌==◌, false, List, [], ◌∷�
 use Rattle.std.specs.Option.{unwrap_or}
 use Rattle.std.proofs.lemmas.Bool.Decides.{nat_tests}
 use Rattle.http.specs.StatusCode.{reason_phrase}
-use Rattle.chv_defs.specs.Replies.{phrase, line_end}
+use Rattle.chv_defs_api.specs.Replies.{phrase, line_end}
 use Rattle.chv_http.specs.Reply.{IsSent}
 
 differs : (a b : ℕ) → ¬ (a ≡ b) → (a == b) ≡ false

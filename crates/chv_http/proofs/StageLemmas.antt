@@ -1,9 +1,9 @@
 -- What a stage says still holds where bytes follow.
 use Rattle.std.proofs.Common.{◌≡◌, ℕ, ◌≤◌, ◌⊎◌, List, ◌++◌, length, get_or, sym, subst, ◌∙◌, inl, inr, arith, length-append}
 use Rattle.std.proofs.lemmas.List.{take-append-le, get_or_append_left}
-use Rattle.chv_defs.specs.declared.rule.Rule.{Rule}
-use Rattle.chv_defs.specs.declared.request.Took.TheVariants as took
-use Rattle.chv_defs.specs.Requests.{IsShort, Cuts}
+use Rattle.chv_defs_base.specs.declared.rule.Rule.{Rule}
+use Rattle.chv_defs_api.specs.declared.request.Took.TheVariants as took
+use Rattle.chv_defs_api.specs.Requests.{IsShort, Cuts}
 use Rattle.chv_http.specs.declared.stage.Stage.{Stage}
 use Rattle.chv_http.specs.declared.stage.Stage.TheVariants.{Front, Body, Bad}
 use Rattle.chv_http.specs.Head.{IsHeadOf}

@@ -4,10 +4,10 @@ use Rattle.std.specs.List.{list_any}
 use Rattle.std.specs.Str.{bytes_eq}
 use Rattle.httparse.specs.Grammar.{RequestHead, ReadsRequest}
 use Rattle.httparse.specs.Spans.{IsWithin, span_bytes}
-use Rattle.chv_defs.specs.declared.rule.Rule.{Rule}
-use Rattle.chv_defs.specs.declared.rule.Rule.TheVariants.{BadHead}
-use Rattle.chv_defs.specs.HttpFront.{IsFront}
-use Rattle.chv_defs.specs.Requests.{fields_of, asks_to_close, body_length}
+use Rattle.chv_defs_base.specs.declared.rule.Rule.{Rule}
+use Rattle.chv_defs_base.specs.declared.rule.Rule.TheVariants.{BadHead}
+use Rattle.chv_defs_api.specs.HttpFront.{IsFront}
+use Rattle.chv_defs_api.specs.Requests.{fields_of, asks_to_close, body_length}
 use Rattle.chv_http.specs.declared.head.Head.{Head}
 
 -- the whole front is this head of at most 32 fields

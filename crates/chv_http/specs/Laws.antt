@@ -1,10 +1,10 @@
 -- Laws of the requests of a stream: what they are does not depend on how the stream came in.
 use Rattle.std.specs.Prelude.{◌≡◌, ◌≢◌, ℕ, List, ◌++◌}
-use Rattle.chv_defs.specs.declared.request.Request.{Request}
-use Rattle.chv_defs.specs.declared.request.Took.{Took}
-use Rattle.chv_defs.specs.declared.request.Took.TheVariants as took
-use Rattle.chv_defs.specs.Requests.{Cuts, CutsInto, BeginsWith}
-use Rattle.chv_defs.specs.StreamCut.{cut}
+use Rattle.chv_defs_api.specs.declared.request.Request.{Request}
+use Rattle.chv_defs_api.specs.declared.request.Took.{Took}
+use Rattle.chv_defs_api.specs.declared.request.Took.TheVariants as took
+use Rattle.chv_defs_api.specs.Requests.{Cuts, CutsInto, BeginsWith}
+use Rattle.chv_defs_api.specs.StreamCut.{cut}
 
 -- the bytes begin with no whole request
 abbrev pub BeginsWithNone : List ℕ → Type 0

@@ -1,8 +1,8 @@
 -- What a stage says of the bytes that were looked at.
 use Rattle.std.specs.Prelude.{ℕ, ◌<◌, ◌≤◌, List, length, ⊤}
-use Rattle.chv_defs.specs.declared.request.Took.TheVariants as took
-use Rattle.chv_defs.specs.HttpFront.{Closes, HasNoFront}
-use Rattle.chv_defs.specs.Requests.{Cuts}
+use Rattle.chv_defs_api.specs.declared.request.Took.TheVariants as took
+use Rattle.chv_defs_api.specs.HttpFront.{Closes, HasNoFront}
+use Rattle.chv_defs_api.specs.Requests.{Cuts}
 use Rattle.chv_http.specs.declared.stage.Stage.{Stage}
 use Rattle.chv_http.specs.declared.stage.Stage.TheVariants.{Front, Body, Bad}
 use Rattle.chv_http.specs.Head.{Awaits}

@@ -3,9 +3,9 @@ ghost use Rattle.std.specs.Prelude.{◌≡◌, ◌+◌, ◌-◌, ◌*◌, ◌^�
 ghost use Rattle.std.specs.List.{list_any};
 ghost use Rattle.std.specs.Str.{str_eq_ignore_ascii_case};
 ghost use Rattle.httparse.specs.Spans.{IsHeaderWithin, header_bytes};
-ghost use Rattle.chv_defs.specs.Requests as request;
+ghost use Rattle.chv_defs_api.specs.Requests as request;
 
-use chv_defs::Rule;
+use chv_defs_base::Rule;
 use httparse::spans::HeaderSpan;
 
 const CONTENT_LENGTH: &[u8] = b"content-length";
@@ -35,7 +35,7 @@ fn is_named(head: &[u8], field: &HeaderSpan, name: &[u8]) -> bool
 }
 
 /// Whether the field asks to close the connection.
-#[tactic(auto, unfolding(chv_defs::specs::Requests::connection, chv_defs::specs::Requests::close_word))]
+#[tactic(auto, unfolding(chv_defs_api::specs::Requests::connection, chv_defs_api::specs::Requests::close_word))]
 fn is_close(head: &[u8], field: &HeaderSpan) -> bool
     requires { IsHeaderWithin (length head.now) field.now }
     ensures { result ≡ request.asks_to_close (header_bytes head.now field.now) }
@@ -121,7 +121,7 @@ fn announced_length(head: &[u8], fields: &[HeaderSpan]) -> Option<u64>
 }
 
 /// The length of the body, or the first rule that refuses the head.
-#[tactic(auto, unfolding(chv_defs::specs::Requests::transfer_encoding))]
+#[tactic(auto, unfolding(chv_defs_api::specs::Requests::transfer_encoding))]
 pub fn body_length(head: &[u8], fields: &[HeaderSpan]) -> Result<usize, Rule>
     requires { All (IsHeaderWithin (length head.now)) fields.now }
     ensures { result ≡ request.body_length (map (header_bytes head.now) fields.now) }

@@ -1,6 +1,6 @@
 // Where the front of a stream ends.
 ghost use Rattle.std.specs.Prelude.{◌≡◌, ◌≢◌, ℕ, ◌+◌, ◌<◌, ◌≤◌, ◌↔◌, length, slice_index, IsTrue, IfSome, IfNone};
-ghost use Rattle.chv_defs.specs.HttpFront.{Closes, IsFront};
+ghost use Rattle.chv_defs_api.specs.HttpFront.{Closes, IsFront};
 ghost use Rattle.chv_http.specs.Search.{AreLineEnds, IsText};
 
 const CARRIAGE_RETURN: u8 = b'\r';

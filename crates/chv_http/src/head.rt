@@ -1,10 +1,11 @@
 // The head of a request, read from a whole front.
 ghost use Rattle.std.specs.Prelude.{◌≡◌, ◌+◌, ◌≤◌, length, drop, IfOk, IfErr};
 ghost use Rattle.httparse.specs.Grammar.{RequestHead};
-ghost use Rattle.chv_defs.specs.Requests.{BeginsWith};
+ghost use Rattle.chv_defs_api.specs.Requests.{BeginsWith};
 
 use crate::fields::{asks_to_close, body_length};
-use chv_defs::{Bytes, Request, Rule, Text};
+use chv_defs_api::Request;
+use chv_defs_base::{Bytes, Rule, Text};
 use httparse::Status;
 use httparse::spans::{EMPTY_HEADER_SPAN, Span, parse_request};
 use std::alloc::{AllocError, Global};

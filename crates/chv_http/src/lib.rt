@@ -9,7 +9,7 @@ mod parser;
 mod reply;
 mod stage;
 
-pub use chv_defs::{Request, Took};
+pub use chv_defs_api::{Request, Took};
 pub use laws::{any_pieces, cut_computes, decided_by_bytes};
 pub use parser::Parser;
 pub use reply::reply_bytes;

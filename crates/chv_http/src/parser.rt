@@ -1,11 +1,11 @@
 // Requests cut from a stream that comes in pieces.
 ghost use Rattle.std.specs.Prelude.{◌≡◌, ◌≤◌, ◌+◌, ◌==◌, [], ◌++◌, length, drop, take, IfOk, OnOk, OnErr, vec_len};
-ghost use Rattle.chv_defs.specs.Requests.{BeginsWith, Cuts};
+ghost use Rattle.chv_defs_api.specs.Requests.{BeginsWith, Cuts};
 ghost use Rattle.chv_http.specs.Head.{Awaits};
 
 use crate::head::Head;
 use crate::stage::Stage;
-use chv_defs::{Request, Took};
+use chv_defs_api::{Request, Took};
 use std::alloc::{AllocError, Global};
 use std::marker::Model;
 

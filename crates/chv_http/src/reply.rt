@@ -1,9 +1,9 @@
 // The bytes of replies.
 ghost use Rattle.std.specs.Prelude.{◌≡◌, ◌↔◌, ◌++◌, IsTrue, IfOk, OnOk, option_copied, string_bytes};
-ghost use Rattle.chv_defs.specs.Replies as replies;
+ghost use Rattle.chv_defs_api.specs.Replies as replies;
 ghost use Rattle.chv_http.specs.Reply.{IsSent};
 
-use chv_defs::{Bytes, Text};
+use chv_defs_base::{Bytes, Text};
 use http::StatusCode;
 use std::alloc::{AllocError, Global};
 
@@ -28,7 +28,7 @@ fn phrase(status: u16) -> &'static str
 }
 
 /// Appends the status line.
-#[tactic(auto, unfolding(chv_defs::specs::Replies::version_text))]
+#[tactic(auto, unfolding(chv_defs_api::specs::Replies::version_text))]
 fn push_status(reply: &mut String, status: u16) -> Result<(), AllocError>
     ensures { OnOk result (string_bytes reply.new ≡ string_bytes reply.old ++ replies.status_line status) }
 {
@@ -38,7 +38,7 @@ fn push_status(reply: &mut String, status: u16) -> Result<(), AllocError>
 }
 
 /// Appends the field of the last reply.
-#[tactic(auto, unfolding(chv_defs::specs::Replies::close_text))]
+#[tactic(auto, unfolding(chv_defs_api::specs::Replies::close_text))]
 fn push_close(reply: &mut String, last: bool) -> Result<(), AllocError>
     ensures { OnOk result (string_bytes reply.new ≡ string_bytes reply.old ++ replies.close_line last) }
 {
@@ -49,7 +49,7 @@ fn push_close(reply: &mut String, last: bool) -> Result<(), AllocError>
 }
 
 /// Appends the fields of a body, the empty line and the body.
-#[tactic(auto, unfolding(chv_defs::specs::Replies::type_text, chv_defs::specs::Replies::length_text))]
+#[tactic(auto, unfolding(chv_defs_api::specs::Replies::type_text, chv_defs_api::specs::Replies::length_text))]
 fn push_json(reply: &mut String, body: &str) -> Result<(), AllocError>
     ensures { OnOk result (string_bytes reply.new ≡ string_bytes reply.old ++ replies.body_part (Some body.now)) }
 {

@@ -1,10 +1,10 @@
 // How far the bytes of a stream were looked at.
 ghost use Rattle.std.specs.Prelude.{◌≡◌, ◌≤◌, length};
-ghost use Rattle.chv_defs.specs.HttpFront.{IsFront};
+ghost use Rattle.chv_defs_api.specs.HttpFront.{IsFront};
 
 use crate::front::{end_of_front, first_text};
 use crate::head::Head;
-use chv_defs::Rule;
+use chv_defs_base::Rule;
 
 /// The most bytes of a head.
 const LONGEST_HEAD: usize = 8_192;

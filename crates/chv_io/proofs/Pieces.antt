@@ -3,7 +3,7 @@ use Rattle.std.proofs.Common.{◌≡◌, ℕ, ◌+◌, min, false, List, ◌++�
 use Rattle.std.proofs.lemmas.Grind.{common_steps}
 use Rattle.std.proofs.lemmas.List.{take_min}
 use Rattle.std.proofs.Math.Seq.{take-add}
-use Rattle.chv_defs.specs.FailingCalls.{Calls, is_listed, after_call}
+use Rattle.chv_io.specs.FailingCalls.{Calls, is_listed, after_call}
 use Rattle.chv_io.specs.MemLink.{Wire, after_read}
 
 pub given_more : (bs piece : List ℕ) (from n : ℕ) → take n piece ≡ take n (drop from bs) → take (from + n) bs ≡ take from bs ++ take n piece

@@ -1,5 +1,9 @@
+pub mod Disks
+pub mod FailingCalls
+pub mod Links
 pub mod MemLink
 pub mod MemListener
 pub mod MemSink
 pub mod MemSource
+pub mod Outside
 pub mod Wrapped

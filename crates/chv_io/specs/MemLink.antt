@@ -1,6 +1,6 @@
 -- A connection in memory, and what its calls do to it.
 use Rattle.std.specs.Prelude.{ℕ, min, ◌++◌, Bool, List, take, if◌then◌else◌}
-use Rattle.chv_defs.specs.FailingCalls.{Calls, is_listed}
+use Rattle.chv_io.specs.FailingCalls.{Calls, is_listed}
 use Rattle.chv_io.specs.MemSource.{Feed, after_take}
 use Rattle.chv_io.specs.MemSink.{Jar, after_put}
 

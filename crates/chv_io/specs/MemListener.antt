@@ -1,7 +1,7 @@
 -- A listener in memory, and what its calls do to it.
 use Rattle.std.specs.Prelude.{ℕ, ◌==◌, Bool, ◌||◌, List, length, drop, Option, Some, if◌then◌else◌}
-use Rattle.chv_defs.specs.FailingCalls.{Calls, is_listed, after_call}
-use Rattle.chv_defs.specs.Links.{IsNew}
+use Rattle.chv_io.specs.FailingCalls.{Calls, is_listed, after_call}
+use Rattle.chv_io.specs.Links.{IsNew}
 use Rattle.chv_io.specs.MemLink.{Wire}
 
 -- The connections that a listener in memory has left to give, in their order; the port that it listens on, if it does;

@@ -1,6 +1,6 @@
 -- A sink in memory, and what a write does to it.
 use Rattle.std.specs.Prelude.{ℕ, ◌+◌, ◌++◌, Bool, ◌||◌, List, length, nat_lt, if◌then◌else◌}
-use Rattle.chv_defs.specs.FailingCalls.{Calls, is_listed, after_call}
+use Rattle.chv_io.specs.FailingCalls.{Calls, is_listed, after_call}
 
 -- The bytes that were put into a sink in memory, how many can be put in all, and its calls.
 pub record Jar : Type 0 where

@@ -1,6 +1,6 @@
 -- A source in memory, and what a read does to it.
 use Rattle.std.specs.Prelude.{ℕ, List, drop, if◌then◌else◌}
-use Rattle.chv_defs.specs.FailingCalls.{Calls, is_listed, after_call}
+use Rattle.chv_io.specs.FailingCalls.{Calls, is_listed, after_call}
 
 -- The bytes that a source in memory has left, and its calls.
 pub record Feed : Type 0 where

@@ -1,10 +1,10 @@
 // The calls of an object in memory, of which listed ones fail.
 ghost use Rattle.std.specs.Prelude.{◌≡◌, ◌≤◌, ◌↔◌, false, IsOk};
-ghost use Rattle.chv_defs.specs.Outside.{HasCause};
-ghost use Rattle.chv_defs.specs.FailingCalls.{no_calls, is_listed, after_call};
+ghost use Rattle.chv_io.specs.Outside.{HasCause};
+ghost use Rattle.chv_io.specs.FailingCalls.{no_calls, is_listed, after_call};
 
 use crate::Failed;
-use chv_defs::Row;
+use chv_defs_base::Row;
 use std::marker::Model;
 
 /// Which calls of an object in memory fail, how many calls it has had, and how many of them failed.
@@ -17,7 +17,7 @@ pub struct Calls {
 }
 
 impl Model for Calls {
-    ghost use Rattle.chv_defs.specs.FailingCalls.{Calls};
+    ghost use Rattle.chv_io.specs.FailingCalls.{Calls};
 
     ghost Value = { Calls };
 

@@ -1,8 +1,8 @@
 // Disks.
 ghost use Rattle.std.specs.Prelude.{◌≡◌, ◌<◌, ℕ, List, Option, None, IfSome};
-ghost use Rattle.chv_defs.specs.Outside.{HasCause};
-ghost use Rattle.chv_defs.specs.FailingCalls.{Calls, FailsAsListed};
-ghost use Rattle.chv_defs.specs.Disks.{IsWhole, GivesSector, WritesSector};
+ghost use Rattle.chv_io.specs.Outside.{HasCause};
+ghost use Rattle.chv_io.specs.FailingCalls.{Calls, FailsAsListed};
+ghost use Rattle.chv_io.specs.Disks.{IsWhole, GivesSector, WritesSector};
 
 use crate::Failed;
 

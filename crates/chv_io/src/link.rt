@@ -1,8 +1,8 @@
 // Connections.
 ghost use Rattle.std.specs.Prelude.{◌≡◌, ◌<◌, ℕ, List, Bool, true, Option, Result, length};
 ghost use Rattle.std.specs.Io.{ReadsAtMost};
-ghost use Rattle.chv_defs.specs.Outside.{Takes, Puts, HasCause};
-ghost use Rattle.chv_defs.specs.Links.{Gives, ReadLeaves, WriteLeaves, Fills};
+ghost use Rattle.chv_io.specs.Outside.{Takes, Puts, HasCause};
+ghost use Rattle.chv_io.specs.Links.{Gives, ReadLeaves, WriteLeaves, Fills};
 ghost use Rattle.chv_io.specs.declared.failed.Failed.{Failed};
 
 use crate::{Failed, Sink, Source};

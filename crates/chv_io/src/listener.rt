@@ -1,7 +1,7 @@
 // Listeners.
 ghost use Rattle.std.specs.Prelude.{◌≡◌, ℕ, Option, None, Some, IsSome, IfOk, OnOk, OnErr};
-ghost use Rattle.chv_defs.specs.Outside.{HasCause};
-ghost use Rattle.chv_defs.specs.Links.{IsNew};
+ghost use Rattle.chv_io.specs.Outside.{HasCause};
+ghost use Rattle.chv_io.specs.Links.{IsNew};
 
 use crate::{Failed, Link};
 

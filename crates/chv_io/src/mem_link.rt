@@ -1,15 +1,15 @@
 // A connection in memory.
 ghost use Rattle.std.specs.Prelude.{◌≡◌, ◌<◌, ◌≤◌, ◌↔◌, [], length, take, min, false, IsOk, IfOk, OnErr};
 ghost use Rattle.std.specs.Io.{ReadsAtMost};
-ghost use Rattle.chv_defs.specs.Outside.{Takes, Puts, HasCause};
-ghost use Rattle.chv_defs.specs.Links.{Gives, ReadLeaves, WriteLeaves, Fills};
-ghost use Rattle.chv_defs.specs.FailingCalls.{no_calls, is_listed};
+ghost use Rattle.chv_io.specs.Outside.{Takes, Puts, HasCause};
+ghost use Rattle.chv_io.specs.Links.{Gives, ReadLeaves, WriteLeaves, Fills};
+ghost use Rattle.chv_io.specs.FailingCalls.{no_calls, is_listed};
 ghost use Rattle.chv_io.specs.MemSink.{put_fails};
 ghost use Rattle.chv_io.specs.MemLink.{after_read, after_write, jar_of};
 
 use crate::mem_source::copy_front;
 use crate::{Calls, Failed, Link, Sink, Source};
-use chv_defs::{Bytes, Row};
+use chv_defs_base::{Bytes, Row};
 use std::alloc::{AllocError, Global};
 use std::marker::Model;
 
@@ -105,7 +105,7 @@ impl MemLink {
 
 impl Source for MemLink {
     ghost use Rattle.std.specs.Prelude.{Some, length};
-    ghost use Rattle.chv_defs.specs.Links.{Gives, ReadLeaves, Fills};
+    ghost use Rattle.chv_io.specs.Links.{Gives, ReadLeaves, Fills};
 
     ghost left = { λ l. Some l.left };
 
@@ -143,7 +143,7 @@ impl Source for MemLink {
 
 impl Sink for MemLink {
     ghost use Rattle.std.specs.Prelude.{◌≡◌, Some};
-    ghost use Rattle.chv_defs.specs.Links.{WriteLeaves};
+    ghost use Rattle.chv_io.specs.Links.{WriteLeaves};
 
     ghost written = { λ l. Some l.written };
 

@@ -1,11 +1,11 @@
 // A listener in memory.
 ghost use Rattle.std.specs.Prelude.{◌≡◌, ◌∷◌, ◌↔◌, length, false, None, Some, All, IsSome, IsOk, IfOk, OnOk, OnErr};
-ghost use Rattle.chv_defs.specs.Outside.{HasCause};
-ghost use Rattle.chv_defs.specs.FailingCalls.{no_calls, is_listed};
+ghost use Rattle.chv_io.specs.Outside.{HasCause};
+ghost use Rattle.chv_io.specs.FailingCalls.{no_calls, is_listed};
 ghost use Rattle.chv_io.specs.MemListener.{IsFresh, after_listen, accept_fails, after_accept};
 
 use crate::{Calls, Failed, Listener, MemLink};
-use chv_defs::Row;
+use chv_defs_base::Row;
 use std::marker::Model;
 
 /// A listener in memory, which gives connections in memory in their order. The listed ones of its calls `listen` and

@@ -1,11 +1,11 @@
 // A sink in memory.
 ghost use Rattle.std.specs.Prelude.{◌≡◌, ◌↔◌, [], false, IsOk, IfOk};
-ghost use Rattle.chv_defs.specs.Outside.{Puts, HasCause};
-ghost use Rattle.chv_defs.specs.FailingCalls.{no_calls};
+ghost use Rattle.chv_io.specs.Outside.{Puts, HasCause};
+ghost use Rattle.chv_io.specs.FailingCalls.{no_calls};
 ghost use Rattle.chv_io.specs.MemSink.{put_fails, after_put};
 
 use crate::{Calls, Failed, Sink};
-use chv_defs::Row;
+use chv_defs_base::Row;
 use std::alloc::{AllocError, Global};
 use std::marker::Model;
 

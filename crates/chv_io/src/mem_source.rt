@@ -1,12 +1,12 @@
 // A source in memory.
 ghost use Rattle.std.specs.Prelude.{◌≡◌, ◌<◌, ◌↔◌, ◌++◌, length, take, drop, min, false, IsOk, IfOk};
 ghost use Rattle.std.specs.Io.{ReadsAtMost};
-ghost use Rattle.chv_defs.specs.Outside.{Takes, HasCause};
-ghost use Rattle.chv_defs.specs.FailingCalls.{no_calls, is_listed};
+ghost use Rattle.chv_io.specs.Outside.{Takes, HasCause};
+ghost use Rattle.chv_io.specs.FailingCalls.{no_calls, is_listed};
 ghost use Rattle.chv_io.specs.MemSource.{after_take};
 
 use crate::{Calls, Failed, Source};
-use chv_defs::{Bytes, Row};
+use chv_defs_base::{Bytes, Row};
 use std::marker::Model;
 
 /// A source over bytes in memory, which tells what is left. Its listed calls fail, and no others.

@@ -1,6 +1,6 @@
 // Where bytes go.
 ghost use Rattle.std.specs.Prelude.{◌≡◌, ℕ, List, Option};
-ghost use Rattle.chv_defs.specs.Outside.{Puts, HasCause};
+ghost use Rattle.chv_io.specs.Outside.{Puts, HasCause};
 
 use crate::Failed;
 

@@ -1,7 +1,7 @@
 // Where bytes come from.
 ghost use Rattle.std.specs.Prelude.{◌≡◌, ◌<◌, ℕ, List, Option, Result, length};
 ghost use Rattle.std.specs.Io.{ReadsAtMost};
-ghost use Rattle.chv_defs.specs.Outside.{Takes, HasCause};
+ghost use Rattle.chv_io.specs.Outside.{Takes, HasCause};
 ghost use Rattle.chv_io.specs.declared.failed.Failed.{Failed};
 
 use crate::Failed;

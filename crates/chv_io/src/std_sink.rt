@@ -1,7 +1,7 @@
 // A sink over a writer of std.
 ghost use Rattle.std.specs.Prelude.{◌≡◌, ◌<◌, ◌≤◌, None, IfOk, length};
 ghost use Rattle.std.specs.Io.KnownBytes.{Keeps, WriteAppends};
-ghost use Rattle.chv_defs.specs.Outside.{Puts, HasCause};
+ghost use Rattle.chv_io.specs.Outside.{Puts, HasCause};
 ghost use Rattle.chv_io.specs.Wrapped.{WritesThrough};
 
 use crate::{Failed, Sink};

@@ -2,7 +2,7 @@
 ghost use Rattle.std.specs.Prelude.{◌≡◌, ◌<◌, None, length};
 ghost use Rattle.std.specs.Io.{ReadsAtMost};
 ghost use Rattle.std.specs.Io.KnownBytes.{ReadConsumes};
-ghost use Rattle.chv_defs.specs.Outside.{Takes, HasCause};
+ghost use Rattle.chv_io.specs.Outside.{Takes, HasCause};
 
 use crate::{Failed, Source};
 use std::io::{ErrorKind, Read};

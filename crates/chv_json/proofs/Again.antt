@@ -2,14 +2,14 @@
 use Rattle.std.proofs.Common.{◌≡◌, List, [], ◌∷◌, map, Result, Ok, Some, None, refl}
 use Rattle.serde_json.specs.Data.{Data}
 use Rattle.serde_json.specs.View.{items_of}
-use Rattle.chv_defs.specs.JsonBodies.{each, zone_in, memory_in, disk_in, config_in}
-use Rattle.chv_defs.specs.JsonTexts.{zone_value, memory_value, disk_value, config_value}
-use Rattle.chv_defs.specs.declared.rule.Rule.{Rule}
-use Rattle.chv_defs.specs.declared.config.VmConfig.{VmConfig}
-use Rattle.chv_defs.specs.declared.config.MemConfig.{MemConfig}
-use Rattle.chv_defs.specs.declared.config.ZoneConfig.{ZoneConfig}
-use Rattle.chv_defs.specs.declared.config.DiskConfig.{DiskConfig}
-use Rattle.chv_defs.specs.declared.config.Hotplug.TheVariants.{Acpi, VirtioMem}
+use Rattle.chv_defs_api.specs.JsonBodies.{each, zone_in, memory_in, disk_in, config_in}
+use Rattle.chv_defs_api.specs.JsonTexts.{zone_value, memory_value, disk_value, config_value}
+use Rattle.chv_defs_base.specs.declared.rule.Rule.{Rule}
+use Rattle.chv_defs_api.specs.declared.config.VmConfig.{VmConfig}
+use Rattle.chv_defs_api.specs.declared.config.MemConfig.{MemConfig}
+use Rattle.chv_defs_api.specs.declared.config.ZoneConfig.{ZoneConfig}
+use Rattle.chv_defs_api.specs.declared.config.DiskConfig.{DiskConfig}
+use Rattle.chv_defs_api.specs.declared.config.Hotplug.TheVariants.{Acpi, VirtioMem}
 
 each_again : {A : Type 0} (value : A → Data) (meaning : Data → Result A Rule) → ((x : A) → meaning (value x) ≡ Ok x) → (xs : List A) → each meaning (items_of (map value xs)) ≡ Ok xs
 each_again value meaning again [] = refl

@@ -8,18 +8,18 @@ use Rattle.serde_json.specs.Written.{has_float, items_have_float, members_have_f
 use Rattle.std.specs.Ordering.{match_ordering}
 use Rattle.std.specs.declared.cmp.Ordering.{Ordering}
 use Rattle.std.specs.declared.cmp.Ordering.TheVariants.{Less, Equal, Greater}
-use Rattle.chv_defs.specs.JsonTexts.{whole, method_value, zone_value, disk_value, config_value, device_value, zone_info_value, state_value, info_value, count_value, with_counts, counters_value}
-use Rattle.chv_defs.specs.declared.config.VmConfig.{VmConfig}
-use Rattle.chv_defs.specs.declared.config.ZoneConfig.{ZoneConfig}
-use Rattle.chv_defs.specs.declared.config.DiskConfig.{DiskConfig}
-use Rattle.chv_defs.specs.declared.config.Hotplug.{Hotplug}
-use Rattle.chv_defs.specs.declared.config.Hotplug.TheVariants.{Acpi, VirtioMem}
-use Rattle.chv_defs.specs.declared.context.CountOf.{CountOf}
-use Rattle.chv_defs.specs.declared.info.Info.{Info}
-use Rattle.chv_defs.specs.declared.info.DeviceInfo.{DeviceInfo}
-use Rattle.chv_defs.specs.declared.info.ZoneInfo.{ZoneInfo}
-use Rattle.chv_defs.specs.declared.info.ShownState.{ShownState}
-use Rattle.chv_defs.specs.declared.info.ShownState.TheVariants.{Created, Running, Paused, Shutdown}
+use Rattle.chv_defs_api.specs.JsonTexts.{whole, method_value, zone_value, disk_value, config_value, device_value, zone_info_value, state_value, info_value, count_value, with_counts, counters_value}
+use Rattle.chv_defs_api.specs.declared.config.VmConfig.{VmConfig}
+use Rattle.chv_defs_api.specs.declared.config.ZoneConfig.{ZoneConfig}
+use Rattle.chv_defs_api.specs.declared.config.DiskConfig.{DiskConfig}
+use Rattle.chv_defs_api.specs.declared.config.Hotplug.{Hotplug}
+use Rattle.chv_defs_api.specs.declared.config.Hotplug.TheVariants.{Acpi, VirtioMem}
+use Rattle.chv_defs_api.specs.declared.context.CountOf.{CountOf}
+use Rattle.chv_defs_api.specs.declared.info.Info.{Info}
+use Rattle.chv_defs_api.specs.declared.info.DeviceInfo.{DeviceInfo}
+use Rattle.chv_defs_api.specs.declared.info.ZoneInfo.{ZoneInfo}
+use Rattle.chv_defs_api.specs.declared.info.ShownState.{ShownState}
+use Rattle.chv_defs_api.specs.declared.info.ShownState.TheVariants.{Created, Running, Paused, Shutdown}
 
 floatless_items : {A : Type 0} (f : A → Data) → ((x : A) → has_float (f x) ≡ false) → (xs : List A) → items_have_float (items_of (map f xs)) ≡ false
 floatless_items f h [] = refl

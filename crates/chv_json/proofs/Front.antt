@@ -1,7 +1,7 @@
 -- A list of which a front was read already.
 use Rattle.std.proofs.Common.{List, ◌++◌, Result, Ok}
-use Rattle.chv_defs.specs.JsonBodies.{◌>>=◌}
-use Rattle.chv_defs.specs.declared.rule.Rule.{Rule}
+use Rattle.chv_defs_api.specs.JsonBodies.{◌>>=◌}
+use Rattle.chv_defs_base.specs.declared.rule.Rule.{Rule}
 
 -- what was found, before what the rest means
 abbrev pub with_front : {A : Type 0} → List A → Result (List A) Rule → Result (List A) Rule

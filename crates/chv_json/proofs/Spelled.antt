@@ -5,8 +5,8 @@ use Rattle.std.specs.Str.{IsUtf8, is_utf8}
 use Rattle.std.proofs.lemmas.Str.{IsUtf8-from_is_utf8, is_utf8-from_IsUtf8}
 use Rattle.serde_json.specs.Data.{Data}
 use Rattle.serde_json.specs.Read.{read}
-use Rattle.chv_defs.specs.declared.rule.Rule.TheVariants.{NotJson}
-use Rattle.chv_defs.specs.JsonBodies.{value_of}
+use Rattle.chv_defs_base.specs.declared.rule.Rule.TheVariants.{NotJson}
+use Rattle.chv_defs_api.specs.JsonBodies.{value_of}
 
 chosen : {A : Type 0} (b : Bool) (x y : A) → b ≡ true → cond b x y ≡ x
 chosen b x y e = ap (λ t. cond t x y) e

@@ -1,7 +1,7 @@
 -- What a reader answers, beside what the body's value means.
 use Rattle.std.specs.Prelude.{◌≡◌, Result, Ok, Err, alloc_error}
 use Rattle.std.specs.declared.alloc.AllocError.{AllocError}
-use Rattle.chv_defs.specs.declared.rule.Rule.{Rule}
+use Rattle.chv_defs_base.specs.declared.rule.Rule.{Rule}
 use Rattle.chv_json.specs.declared.refused.Refused.{Refused}
 use Rattle.chv_json.specs.declared.refused.Refused.TheVariants.{Memory, Broken}
 

@@ -1,8 +1,8 @@
 // A configuration, read from a JSON value.
 ghost use Rattle.std.specs.Prelude.{◌≡◌};
 ghost use Rattle.serde_json.specs.View.{view};
-ghost use Rattle.chv_defs.specs.JsonBodies.{cpus_in, zone_in, memory_in};
-ghost use Rattle.chv_defs.specs.JsonBodies.{disk_in, empty_object, config_in};
+ghost use Rattle.chv_defs_api.specs.JsonBodies.{cpus_in, zone_in, memory_in};
+ghost use Rattle.chv_defs_api.specs.JsonBodies.{disk_in, empty_object, config_in};
 ghost use Rattle.chv_json.specs.Gives.{Gives};
 
 use crate::fields::{
@@ -10,7 +10,8 @@ use crate::fields::{
 };
 use crate::from_json::{FromJson, list_of};
 use crate::refused::Refused;
-use chv_defs::{CpuConfig, DiskConfig, Hotplug, MemConfig, Row, Rule, VmConfig, ZoneConfig};
+use chv_defs_api::{CpuConfig, DiskConfig, Hotplug, MemConfig, VmConfig, ZoneConfig};
+use chv_defs_base::{Row, Rule};
 use serde_json::{Map, Value};
 use std::alloc::Global;
 

@@ -2,11 +2,11 @@
 ghost use Rattle.std.specs.Prelude.{◌≡◌, IfOk, ◌∷◌, [], codes};
 ghost use Rattle.serde_json.specs.Data.{boolean, string};
 ghost use Rattle.serde_json.specs.View.{members_view};
-ghost use Rattle.chv_defs.specs.JsonTexts.{members_of, whole, method_value, cpus_value};
-ghost use Rattle.chv_defs.specs.JsonTexts.{zone_value, memory_value, disk_value, config_value};
+ghost use Rattle.chv_defs_api.specs.JsonTexts.{members_of, whole, method_value, cpus_value};
+ghost use Rattle.chv_defs_api.specs.JsonTexts.{zone_value, memory_value, disk_value, config_value};
 
 use crate::to_json::{ToJson, with, with_all};
-use chv_defs::{CpuConfig, DiskConfig, Hotplug, MemConfig, VmConfig, ZoneConfig};
+use chv_defs_api::{CpuConfig, DiskConfig, Hotplug, MemConfig, VmConfig, ZoneConfig};
 use serde_json::{Map, Value};
 use std::alloc::{AllocError, Global};
 

@@ -1,11 +1,12 @@
 // The fields of an object, each with its kind.
 ghost use Rattle.std.specs.Prelude.{◌≡◌, Ok, Err, option_map, MatchResult};
 ghost use Rattle.serde_json.specs.View.{view};
-ghost use Rattle.chv_defs.specs.JsonBodies as bodies;
+ghost use Rattle.chv_defs_api.specs.JsonBodies as bodies;
 ghost use Rattle.chv_json.specs.Gives.{Gives};
 
 use crate::refused::Refused;
-use chv_defs::{Hotplug, Rule, Text};
+use chv_defs_api::Hotplug;
+use chv_defs_base::{Rule, Text};
 use serde_json::Value;
 use std::alloc::Global;
 

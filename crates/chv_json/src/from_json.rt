@@ -2,13 +2,13 @@
 ghost use Rattle.std.specs.Prelude.{◌≡◌, Result};
 ghost use Rattle.serde_json.specs.Data.{Data};
 ghost use Rattle.serde_json.specs.View.{view, items_view};
-ghost use Rattle.chv_defs.specs.declared.rule.Rule.{Rule};
-ghost use Rattle.chv_defs.specs.JsonBodies as bodies;
+ghost use Rattle.chv_defs_base.specs.declared.rule.Rule.{Rule};
+ghost use Rattle.chv_defs_api.specs.JsonBodies as bodies;
 ghost use Rattle.chv_json.specs.Gives.{Gives};
 
 use crate::fields::field;
 use crate::refused::Refused;
-use chv_defs::{Row, Rule};
+use chv_defs_base::{Row, Rule};
 use serde_json::Value;
 use std::alloc::Global;
 

@@ -2,11 +2,11 @@
 ghost use Rattle.std.specs.Prelude.{◌≡◌, IfOk, string_bytes, ◌<◌};
 ghost use Rattle.serde_json.specs.Data.{no_members, string};
 ghost use Rattle.serde_json.specs.View.{view};
-ghost use Rattle.chv_defs.specs.JsonTexts.{bdf_text, device_value, zone_info_value};
-ghost use Rattle.chv_defs.specs.JsonTexts.{state_value, info_value, count_value, counters_value};
+ghost use Rattle.chv_defs_api.specs.JsonTexts.{bdf_text, device_value, zone_info_value};
+ghost use Rattle.chv_defs_api.specs.JsonTexts.{state_value, info_value, count_value, counters_value};
 
 use crate::to_json::{ToJson, with, with_all, with_value};
-use chv_defs::{CountOf, DeviceInfo, DiskCount, Info, ShownState, ZoneInfo};
+use chv_defs_api::{CountOf, DeviceInfo, DiskCount, Info, ShownState, ZoneInfo};
 use serde_json::{Map, Value};
 use std::alloc::{AllocError, Global};
 

@@ -1,9 +1,9 @@
 // What is written is read back.
 ghost use Rattle.std.specs.Prelude.{◌≡◌, Ok};
-ghost use Rattle.chv_defs.specs.JsonBodies.{config_in, disk_in};
-ghost use Rattle.chv_defs.specs.JsonTexts.{config_value, disk_value};
+ghost use Rattle.chv_defs_api.specs.JsonBodies.{config_in, disk_in};
+ghost use Rattle.chv_defs_api.specs.JsonTexts.{config_value, disk_value};
 
-use chv_defs::{DiskConfig, VmConfig};
+use chv_defs_api::{DiskConfig, VmConfig};
 
 /// A configuration that is written is read back as it is.
 #[tactic(auto, using(crate::proofs::Again::config_again))]

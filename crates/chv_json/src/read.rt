@@ -1,13 +1,14 @@
 // The bodies that are read.
 ghost use Rattle.std.specs.Prelude.{◌≡◌, IfOk};
 ghost use Rattle.serde_json.specs.View.{view};
-ghost use Rattle.chv_defs.specs.JsonBodies as bodies;
+ghost use Rattle.chv_defs_api.specs.JsonBodies as bodies;
 ghost use Rattle.chv_json.specs.Gives.{Gives, answer_of};
 
 use crate::fields::{an_object, text, whole, whole_given};
 use crate::from_json::FromJson;
 use crate::refused::Refused;
-use chv_defs::{DiskConfig, Rule, Text, VmConfig};
+use chv_defs_api::{DiskConfig, VmConfig};
+use chv_defs_base::{Rule, Text};
 use serde_json::Value;
 use std::alloc::{AllocError, Global};
 use std::str::from_utf8;
@@ -38,7 +39,7 @@ fn answer<T>(read: Result<T, Refused>) -> Result<Result<T, Rule>, AllocError>
     }
 }
 
-#[tactic(auto, unfolding(chv_defs::specs::JsonBodies::config_of))]
+#[tactic(auto, unfolding(chv_defs_api::specs::JsonBodies::config_of))]
 fn config(alloc: Global, body: &[u8]) -> Result<VmConfig, Refused>
     ensures { Gives (λ x. x) result (bodies.config_of body.now) }
 {
@@ -46,7 +47,7 @@ fn config(alloc: Global, body: &[u8]) -> Result<VmConfig, Refused>
     VmConfig::from_json(alloc, &value)
 }
 
-#[tactic(auto, unfolding(chv_defs::specs::JsonBodies::disk_of))]
+#[tactic(auto, unfolding(chv_defs_api::specs::JsonBodies::disk_of))]
 fn disk(alloc: Global, body: &[u8]) -> Result<DiskConfig, Refused>
     ensures { Gives (λ x. x) result (bodies.disk_of body.now) }
 {
@@ -54,7 +55,7 @@ fn disk(alloc: Global, body: &[u8]) -> Result<DiskConfig, Refused>
     DiskConfig::from_json(alloc, &value)
 }
 
-#[tactic(auto, unfolding(chv_defs::specs::JsonBodies::resize_of))]
+#[tactic(auto, unfolding(chv_defs_api::specs::JsonBodies::resize_of))]
 fn resize(alloc: Global, body: &[u8]) -> Result<(Option<u64>, Option<u64>), Refused>
     ensures { Gives (λ x. x) result (bodies.resize_of body.now) }
 {
@@ -71,7 +72,7 @@ fn resize_in(value: &Value) -> Result<(Option<u64>, Option<u64>), Refused>
     Ok((vcpus, ram))
 }
 
-#[tactic(auto, unfolding(chv_defs::specs::JsonBodies::zone_of))]
+#[tactic(auto, unfolding(chv_defs_api::specs::JsonBodies::zone_of))]
 fn zone(alloc: Global, body: &[u8]) -> Result<(Text, u64), Refused>
     ensures { Gives (λ x. x) result (bodies.zone_of body.now) }
 {
@@ -88,7 +89,7 @@ fn zone_in(alloc: Global, value: &Value) -> Result<(Text, u64), Refused>
     Ok((id, ram))
 }
 
-#[tactic(auto, unfolding(chv_defs::specs::JsonBodies::text_of))]
+#[tactic(auto, unfolding(chv_defs_api::specs::JsonBodies::text_of))]
 fn text_at(alloc: Global, body: &[u8], key: &str) -> Result<Text, Refused>
     ensures { Gives (λ x. x) result (bodies.text_of body.now key.now) }
 {

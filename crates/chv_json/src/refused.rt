@@ -2,7 +2,7 @@
 ghost use Rattle.std.specs.Prelude.{◌≡◌};
 ghost use Rattle.chv_json.specs.declared.refused.Refused.TheVariants.{Memory, Broken};
 
-use chv_defs::Rule;
+use chv_defs_base::Rule;
 use std::alloc::AllocError;
 
 /// Why nothing was read.

@@ -2,9 +2,9 @@
 ghost use Rattle.std.specs.Prelude.{◌≡◌, IfOk, OnOk, ◌++◌, ◌∷◌, [], map};
 ghost use Rattle.serde_json.specs.Data.{Data, boolean, string, put as with_member};
 ghost use Rattle.serde_json.specs.View.{view, members_view};
-ghost use Rattle.chv_defs.specs.JsonTexts.{array_of, whole};
+ghost use Rattle.chv_defs_api.specs.JsonTexts.{array_of, whole};
 
-use chv_defs::Text;
+use chv_defs_base::Text;
 use serde_json::{Map, Value};
 use std::alloc::{AllocError, Global};
 

@@ -3,7 +3,7 @@ use Rattle.std.proofs.Common.{◌≡◌, ◌<◌, inl, inr, ℕ, Bool, true, fal
 use Rattle.std.proofs.lemmas.Bool.{agree_below_at, and_parts, or_cases, ltb-true, leb-true, eqb-true}
 use Rattle.std.specs.Char.{digit_value}
 use Rattle.std.specs.Fmt.{digits, digit_glyph}
-use Rattle.chv_defs.specs.Numbers.{is_decimal_digit, is_hex_digit}
+use Rattle.chv_defs_base.specs.Numbers.{is_decimal_digit, is_hex_digit}
 use Rattle.chv_num.proofs.Spelling.{IsBase}
 
 -- where p and not q never hold together, q follows from p

@@ -3,7 +3,7 @@ use Rattle.std.proofs.Common.{◌≡◌, ◌<◌, ℕ, suc, List, [], ◌∷◌,
 use Rattle.std.proofs.lemmas.Bool.{and_parts, leb-true}
 use Rattle.std.proofs.lemmas.List.{get_or-take, get_or-drop, length-take-le}
 use Rattle.std.proofs.lemmas.Option.{cond_some}
-use Rattle.chv_defs.specs.Numbers.{is_width, le_number, le_bytes, le_field}
+use Rattle.chv_defs_base.specs.Numbers.{is_width, le_number, le_bytes, le_field}
 
 again : (bytes : List ℕ) → ((i : ℕ) → i < length bytes → get_or bytes i 0 < 256) → le_bytes (length bytes) (le_number bytes) ≡ bytes
 again [] small = refl

@@ -3,7 +3,7 @@ use Rattle.std.proofs.Common.{◌≡◌, ◌≤◌, ◌+◌, ◌-◌, ◌*◌, L
 use Rattle.std.proofs.lemmas.Bool.{and_from, cond-true}
 use Rattle.std.proofs.lemmas.List.{take_all}
 use Rattle.std.specs.Char.{digit_value}
-use Rattle.chv_defs.specs.Numbers.{is_hex_digit, bytes_in}
+use Rattle.chv_defs_base.specs.Numbers.{is_hex_digit, bytes_in}
 
 -- what was found, before what the rest spells
 abbrev pub with_front : List ℕ → Option (List ℕ) → Option (List ℕ)

@@ -5,7 +5,7 @@ use Rattle.std.proofs.lemmas.Slice.Eq.{bytes_eq-Decides}
 use Rattle.std.specs.Str.{bytes_eq}
 use Rattle.chv_num.proofs.Bases.{hex_base}
 use Rattle.chv_num.proofs.Spelling.{one_spelling, read_back}
-use Rattle.chv_defs.specs.Numbers.{is_hex_digit, number_of, hex, hex_text}
+use Rattle.chv_defs_base.specs.Numbers.{is_hex_digit, number_of, hex, hex_text}
 
 -- where a choice gave a value, its test held
 pub chosen : {A : Type 0} (b : Bool) (x : Option A) (y : A) → cond b x None ≡ Some y → (b ≡ true) × (x ≡ Some y)

@@ -6,7 +6,7 @@ use Rattle.std.specs.Char.{digit_value}
 use Rattle.std.specs.Fmt.{digit_glyph}
 use Rattle.chv_num.proofs.Bases.{hex_base}
 use Rattle.chv_num.proofs.HexSpelling.{chosen}
-use Rattle.chv_defs.specs.Numbers.{is_hex_digit, pair, pairs, bytes_in, bytes_of}
+use Rattle.chv_defs_base.specs.Numbers.{is_hex_digit, pair, pairs, bytes_in, bytes_of}
 
 value_of_glyph : (d : ℕ) → d < 16 → digit_value (digit_glyph false d) ≡ d
 value_of_glyph d h = eqb-true _ d (agree_below_at (λ d. digit_value (digit_glyph false d) == d) (λ _. true) 16 d refl h)

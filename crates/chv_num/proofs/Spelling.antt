@@ -12,7 +12,7 @@ use Rattle.std.specs.Fmt.{digits, digits_onto, digit_glyph}
 use Rattle.std.specs.List.{list_all}
 use Rattle.std.specs.Str.Parse.{digits_value, digits_value_after}
 use Rattle.chv_num.proofs.Values.{le-times}
-use Rattle.chv_defs.specs.Numbers.{are_digits, number_of}
+use Rattle.chv_defs_base.specs.Numbers.{are_digits, number_of}
 
 -- what is known of a base and its digits
 pub record IsBase (base : ℕ) (is_digit : ℕ → Bool) : Type 0 where

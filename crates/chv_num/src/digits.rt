@@ -4,7 +4,7 @@ ghost use Rattle.std.specs.Prelude.{length, slice_index, Some, None, if◌then�
 ghost use Rattle.std.specs.Char.{digit_value as value_of_digit};
 ghost use Rattle.std.specs.List.{list_all};
 ghost use Rattle.std.specs.Str.Parse.{digits_value};
-ghost use Rattle.chv_defs.specs.Numbers.{is_decimal_digit, is_hex_digit, are_digits, dec, hex};
+ghost use Rattle.chv_defs_base.specs.Numbers.{is_decimal_digit, is_hex_digit, are_digits, dec, hex};
 
 pub(crate) fn is_decimal(byte: u8) -> bool
     ensures { result ≡ is_decimal_digit byte }

@@ -1,6 +1,6 @@
 // Fields of 1, 2, 4 or 8 bytes, the lowest byte first.
 ghost use Rattle.std.specs.Prelude.{◌≡◌, ◌<◌, ◌^◌, ◌++◌, true, OnOk, OnErr};
-ghost use Rattle.chv_defs.specs.Numbers.{is_width, le_bytes, le_field};
+ghost use Rattle.chv_defs_base.specs.Numbers.{is_width, le_bytes, le_field};
 
 use byteorder::{ByteOrder, LittleEndian};
 use std::alloc::AllocError;

@@ -1,7 +1,7 @@
 // Each number and each list of bytes has one spelling, which is read back.
 ghost use Rattle.std.specs.Prelude.{◌≡◌, ◌<◌, ◌^◌, ◌++◌, true, length, take, drop, Some};
-ghost use Rattle.chv_defs.specs.Numbers.{dec, dec_text, hex, hex_text, pairs, bytes_of};
-ghost use Rattle.chv_defs.specs.Numbers.{is_width, le_bytes, le_field};
+ghost use Rattle.chv_defs_base.specs.Numbers.{dec, dec_text, hex, hex_text, pairs, bytes_of};
+ghost use Rattle.chv_defs_base.specs.Numbers.{is_width, le_bytes, le_field};
 
 /// A number's decimal text is read back, and no other text is read as that number.
 pub fn dec_has_one_spelling(text: &[u8], n: u64)

@@ -1,7 +1,7 @@
 // Bytes as pairs of hexadecimal digits.
 ghost use Rattle.std.specs.Prelude.{◌≡◌, ◌<◌, false, IfOk, option_map, string_bytes};
 ghost use Rattle.std.specs.Fmt.{digit_glyph};
-ghost use Rattle.chv_defs.specs.Numbers.{pairs, bytes_in as bytes_in_pairs, bytes_of};
+ghost use Rattle.chv_defs_base.specs.Numbers.{pairs, bytes_in as bytes_in_pairs, bytes_of};
 
 use crate::digits::{digit, is_hex};
 use std::alloc::{AllocError, Global};

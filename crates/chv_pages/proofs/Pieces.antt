@@ -4,7 +4,7 @@ use Rattle.std.specs.Prelude.{cond, ◌==◌, ◌&&◌, slice_index, slice_range
 use Rattle.std.proofs.lemmas.Bool.{false_from_ne_true, cases_lt}
 use Rattle.std.proofs.lemmas.Bool.Decides.{nat_tests}
 use Rattle.std.proofs.lemmas.List.{get_or-drop, get_or-take, length-take, length-drop}
-use Rattle.chv_defs.specs.PageContents.{is_inside}
+use Rattle.chv_defs_memory.specs.PageContents.{is_inside}
 use Rattle.chv_pages.specs.Copies.{CopiedAt}
 use Rattle.chv_pages.specs.declared.held.Held.{Held}
 use Rattle.chv_pages.specs.HeldPages.{has_number, held_at, is_address, IsAt, AreHeld, WritesHeld}

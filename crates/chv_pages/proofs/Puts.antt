@@ -5,7 +5,7 @@ use Rattle.std.specs.List.{prefix_len, cons_option}
 use Rattle.std.proofs.lemmas.List.Sums.{prefix_len-le-length}
 use Rattle.chv_pages.proofs.Places.{one_address}
 use Rattle.std.proofs.lemmas.Bool.Decides.{nat_tests}
-use Rattle.chv_defs.specs.PageContents.{is_blank}
+use Rattle.chv_defs_memory.specs.PageContents.{is_blank}
 use Rattle.chv_pages.specs.declared.held.Held.{Held}
 use Rattle.chv_pages.specs.HeldPages.{has_number, held_at, is_address, is_there, put, shown, visible, AreHeld, MakesRoom}
 

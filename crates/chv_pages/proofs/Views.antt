@@ -6,7 +6,7 @@ use Rattle.std.proofs.lemmas.Bool.{eqb-false}
 use Rattle.std.proofs.lemmas.Bool.Decides.{nat_tests}
 use Rattle.std.proofs.lemmas.List.{ext_get_or}
 use Rattle.std.proofs.lemmas.List.FromFn.{get_or-map-range_with_len, length-map-range_with_len}
-use Rattle.chv_defs.specs.PageContents.{Contents, byte_at, byte_of, bytes_at, is_blank, is_inside, page_bytes, page_numbered, pages_of, Writes, Fills, Clears}
+use Rattle.chv_defs_memory.specs.PageContents.{Contents, byte_at, byte_of, bytes_at, is_blank, is_inside, page_bytes, page_numbered, pages_of, Writes, Fills, Clears}
 use Rattle.chv_pages.specs.Copies.{CopiedAt}
 use Rattle.chv_pages.specs.declared.held.Held.{Held}
 use Rattle.chv_pages.specs.HeldPages.{held_at, is_address, put, shown, visible, AreHeld, MakesRoom, WritesHeld}

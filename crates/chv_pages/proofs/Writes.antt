@@ -6,7 +6,7 @@ use Rattle.std.proofs.lemmas.Bool.Decides.{nat_tests}
 use Rattle.std.proofs.lemmas.List.{length-append, length-take}
 use Rattle.std.proofs.Math.ListN.{get_or-append}
 use Rattle.std.proofs.Math.Seq.{get_or-append_right, take-add}
-use Rattle.chv_defs.specs.PageContents.{is_inside}
+use Rattle.chv_defs_memory.specs.PageContents.{is_inside}
 use Rattle.chv_pages.specs.declared.held.Held.{Held}
 use Rattle.chv_pages.specs.HeldPages.{has_number, held_at, MakesRoom, WritesHeld}
 use Rattle.chv_pages.proofs.Pieces.{inside_true, outside_below, outside_above}

@@ -2,8 +2,8 @@
 use Rattle.std.specs.Prelude.{◌≡◌, ◌≢◌, ℕ, suc, zero, ◌+◌, ◌-◌, ◌/◌, ◌%◌, ◌<◌, ◌≤◌, ◌==◌, ◌&&◌, Bool, true, false, nat_lt, slice_get, if◌then◌else◌, List, [], ◌∷◌, length, map, slice_index, Option, None, Some}
 use Rattle.std.specs.Option.{option_map_or}
 use Rattle.std.specs.List.{filter_map, list_any}
-use Rattle.chv_defs.specs.declared.bank.PageAt.{PageAt}
-use Rattle.chv_defs.specs.PageContents.{is_blank, is_inside}
+use Rattle.chv_defs_memory.specs.declared.bank.PageAt.{PageAt}
+use Rattle.chv_defs_memory.specs.PageContents.{is_blank, is_inside}
 use Rattle.chv_pages.specs.declared.held.Held.{Held}
 
 -- whether the page with a number holds the offset of the block

@@ -1,14 +1,14 @@
 // Putting pages in, and writing them.
 ghost use Rattle.std.specs.Prelude.{◌≡◌, ◌==◌, ◌+◌, ◌-◌, ◌*◌, ◌/◌, ◌%◌, ◌<◌, ◌≤◌, ◌^◌, ◌&&◌, ℕ, Bool, true, false, not, if◌then◌else◌, filter, OnOk, OnErr, length, map, slice_index, vec_len};
 ghost use Rattle.std.specs.Vec.{vec_capacity};
-ghost use Rattle.chv_defs.specs.PageContents.{is_inside};
+ghost use Rattle.chv_defs_memory.specs.PageContents.{is_inside};
 ghost use Rattle.chv_pages.specs.HeldPages.{has_number, held_at, is_address, put, visible, AreHeld, MakesRoom, WritesHeld};
 ghost use Rattle.chv_pages.specs.Order.{AreInOrder};
 
 use crate::held::Held;
 use crate::page::Page;
 use crate::reads::{find, has_page, is_there, number_of, piece_len, place_of};
-use chv_defs::PAGE_BYTES;
+use chv_defs_base::PAGE_BYTES;
 use std::alloc::{AllocError, Global};
 
 /// Puts a page at its number, in place of the one that has it. Takes no memory.

@@ -4,7 +4,8 @@ ghost use Rattle.chv_pages.specs.HeldPages.{visible, AreHeld};
 
 use crate::held::Held;
 use crate::page::Page;
-use chv_defs::{Bytes, PageAt, Row};
+use chv_defs_base::{Bytes, Row};
+use chv_defs_memory::PageAt;
 use std::alloc::{AllocError, Global};
 
 /// A number of pages of zeros.

@@ -1,10 +1,10 @@
 // A page of 4,096 bytes.
 ghost use Rattle.std.specs.Prelude.{◌≡◌, ◌+◌, ◌≤◌, IfOk, length, true};
-ghost use Rattle.chv_defs.specs.PageContents.{is_blank};
+ghost use Rattle.chv_defs_memory.specs.PageContents.{is_blank};
 ghost use Rattle.chv_pages.specs.Copies.{CopiedAt};
 
 use crate::copies::copy_at;
-use chv_defs::PAGE_BYTES;
+use chv_defs_base::PAGE_BYTES;
 use std::alloc::{AllocError, Global};
 use std::marker::Model;
 

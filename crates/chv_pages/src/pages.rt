@@ -1,13 +1,14 @@
 // What guest memory holds.
 ghost use Rattle.std.specs.Prelude.{◌≡◌, ◌+◌, ◌*◌, ◌<◌, ◌≤◌, [], IfOk, OnOk, OnErr, length};
-ghost use Rattle.chv_defs.specs.PageContents.{byte_at, bytes_at, pages_of, AreExact, Clears, Contents, Fills, Writes};
+ghost use Rattle.chv_defs_memory.specs.PageContents.{byte_at, bytes_at, pages_of, AreExact, Clears, Contents, Fills, Writes};
 
 use crate::edits::{drop_block, hold_range, put_page, write_held};
 use crate::held::Held;
 use crate::lists::{blank_pages, count_shown, shown_pages};
 use crate::page::Page;
 use crate::reads::{number_of, read_held};
-use chv_defs::{PAGE_BYTES, PageAt, Row};
+use chv_defs_base::{PAGE_BYTES, Row};
+use chv_defs_memory::PageAt;
 use std::alloc::{AllocError, Global};
 use std::marker::Model;
 
@@ -24,7 +25,7 @@ pub struct Pages {
 impl Model for Pages {
     ghost use Rattle.std.specs.Prelude.{◌*◌, ◌+◌, ◌≤◌, vec_len};
     ghost use Rattle.std.specs.Vec.{vec_capacity};
-    ghost use Rattle.chv_defs.specs.PageContents.{Contents};
+    ghost use Rattle.chv_defs_memory.specs.PageContents.{Contents};
     ghost use Rattle.chv_pages.specs.HeldPages.{visible, AreHeld};
 
     ghost Value = { Contents };

@@ -1,13 +1,13 @@
 // Looking pages up, and reading them.
 ghost use Rattle.std.specs.Prelude.{◌≡◌, ◌==◌, ◌+◌, ◌-◌, ◌*◌, ◌<◌, ◌≤◌, ◌/◌, ◌%◌, ℕ, nat_lt, false, length, min, slice_index, MatchOption};
 ghost use Rattle.std.specs.List.{prefix_len};
-ghost use Rattle.chv_defs.specs.PageContents.{is_inside};
+ghost use Rattle.chv_defs_memory.specs.PageContents.{is_inside};
 ghost use Rattle.chv_pages.specs.HeldPages.{has_number, held_at, is_there, IsAt};
 ghost use Rattle.chv_pages.specs.Order.{AreInOrder};
 
 use crate::copies::{clear_at, copy_at};
 use crate::held::Held;
-use chv_defs::PAGE_BYTES;
+use chv_defs_base::PAGE_BYTES;
 
 const BLOCK_PAGES: u64 = 512;
 

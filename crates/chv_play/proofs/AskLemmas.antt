@@ -1,16 +1,16 @@
 -- A call that is asked at the desk, by what the control value answers it.
 use Rattle.std.proofs.Common.{◌≡◌, inl, inr, ℕ, true, false, List, [], ◌∷◌, ◌++◌, Option, None, Some, Result, Ok, Err, IfOk, refl, sym, ap, ◌∙◌}
-use Rattle.chv_defs.specs.declared.bank.Full.{Full}
-use Rattle.chv_defs.specs.declared.scene.OnShelf.{OnShelf}
-use Rattle.chv_defs.specs.declared.machine.Machine.{Machine}
-use Rattle.chv_defs.specs.declared.control.ControlCall.{ControlCall}
-use Rattle.chv_defs.specs.declared.control.ControlCall.TheVariants as call
-use Rattle.chv_defs.specs.declared.control.ControlReply.{ControlReply}
-use Rattle.chv_defs.specs.declared.control.ControlEntry.{ControlEntry}
-use Rattle.chv_defs.specs.ApiStep.{reply_to}
-use Rattle.chv_defs.specs.ControlStep.{MayCall}
-use Rattle.chv_defs.specs.Desks.{Answer, MayAsk, is_held, is_session_call}
-use Rattle.chv_defs.specs.LegalControl.{answers_by}
+use Rattle.chv_defs_base.specs.declared.book.Full.{Full}
+use Rattle.chv_defs_api.specs.declared.shelf.OnShelf.{OnShelf}
+use Rattle.chv_defs_control.specs.declared.machine.Machine.{Machine}
+use Rattle.chv_defs_api.specs.declared.control.ControlCall.{ControlCall}
+use Rattle.chv_defs_api.specs.declared.control.ControlCall.TheVariants as call
+use Rattle.chv_defs_api.specs.declared.control.ControlReply.{ControlReply}
+use Rattle.chv_defs_api.specs.declared.control.ControlEntry.{ControlEntry}
+use Rattle.chv_defs_control.specs.ApiStep.{reply_to}
+use Rattle.chv_defs_control.specs.ControlStep.{MayCall}
+use Rattle.chv_defs_api.specs.Desks.{Answer, MayAsk, is_held, is_session_call}
+use Rattle.chv_defs_control.specs.LegalControl.{answers_by}
 use Rattle.chv_control.specs.declared.inner.Inner.TheVariants as inner
 use Rattle.chv_control.specs.Control.{Controlled, answer_to, entered, unless_full}
 use Rattle.chv_play.specs.declared.desk.PlayDesk.{PlayDesk}

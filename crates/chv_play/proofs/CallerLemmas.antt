@@ -3,15 +3,15 @@ use Rattle.std.proofs.Common.{◌≡◌, ◌≤◌, ℕ, zero, suc, ◌+◌, Lis
 use Rattle.std.specs.List.{AllByRecursion, cons_option, enumerate_from, range_with_len}
 use Rattle.std.proofs.lemmas.List.{length-map}
 use Rattle.std.proofs.lemmas.List.FromFn.{length-enumerate_from}
-use Rattle.chv_defs.specs.declared.bank.Full.{Full}
-use Rattle.chv_defs.specs.declared.control.ControlCall.TheVariants as call
-use Rattle.chv_defs.specs.declared.scene.Asked.{Asked}
-use Rattle.chv_defs.specs.declared.scene.OnShelf.{OnShelf}
+use Rattle.chv_defs_base.specs.declared.book.Full.{Full}
+use Rattle.chv_defs_api.specs.declared.control.ControlCall.TheVariants as call
+use Rattle.chv_defs_scene.specs.declared.scene.Asked.{Asked}
+use Rattle.chv_defs_api.specs.declared.shelf.OnShelf.{OnShelf}
 use Rattle.chv_defs.specs.declared.trace.SessionTrace.{SessionTrace}
 use Rattle.chv_defs.specs.declared.trace.Trace.{Trace}
-use Rattle.chv_defs.specs.ApiStep.{reply_to}
-use Rattle.chv_defs.specs.ControlBook.{full_at}
-use Rattle.chv_defs.specs.Routes.{reply_to_call}
+use Rattle.chv_defs_control.specs.ApiStep.{reply_to}
+use Rattle.chv_defs_control.specs.ControlBook.{full_at}
+use Rattle.chv_defs_api.specs.Routes.{reply_to_call}
 use Rattle.chv_defs.specs.Schedule.{Turn, Answers, Leaves, Visit, Stage, numbered, turn_of, round_of, rounds_of, all_turns, first_stage, entry_of, with_entry, with_reply, unless_full, after_turn, then_from, after_turns, visit_of, log_of, trace_at, trace_of, stream_of, schedule}
 use Rattle.chv_play.specs.Played.{AreNumbered, IsCallOfOne, AreCallsOf}
 

@@ -3,16 +3,16 @@ use Rattle.std.proofs.Common.{◌≡◌, ◌≢◌, inl, inr, ℕ, ◌==◌, con
 use Rattle.std.proofs.lemmas.List.{append-nil, map-append}
 use Rattle.std.proofs.lemmas.List.Elements.{filter-append}
 use Rattle.std.proofs.lemmas.Bool.Decides.{nat_tests}
-use Rattle.chv_defs.specs.declared.rule.Rule.{Rule}
-use Rattle.chv_defs.specs.declared.machine.Machine.{Machine}
-use Rattle.chv_defs.specs.declared.scene.OnShelf.{OnShelf}
-use Rattle.chv_defs.specs.declared.control.ControlCall.{ControlCall}
-use Rattle.chv_defs.specs.declared.control.ControlCall.TheVariants as call
-use Rattle.chv_defs.specs.declared.control.ControlReply.{ControlReply}
-use Rattle.chv_defs.specs.declared.control.ControlEntry.{ControlEntry}
-use Rattle.chv_defs.specs.ApiStep.{reply_to, refusal_of, refused_or, success_of}
-use Rattle.chv_defs.specs.Desks.{Answer, AreAsked, IsOnlyAsked, is_holding}
-use Rattle.chv_defs.specs.LegalControl.{answers_by, entries_by}
+use Rattle.chv_defs_base.specs.declared.rule.Rule.{Rule}
+use Rattle.chv_defs_control.specs.declared.machine.Machine.{Machine}
+use Rattle.chv_defs_api.specs.declared.shelf.OnShelf.{OnShelf}
+use Rattle.chv_defs_api.specs.declared.control.ControlCall.{ControlCall}
+use Rattle.chv_defs_api.specs.declared.control.ControlCall.TheVariants as call
+use Rattle.chv_defs_api.specs.declared.control.ControlReply.{ControlReply}
+use Rattle.chv_defs_api.specs.declared.control.ControlEntry.{ControlEntry}
+use Rattle.chv_defs_control.specs.ApiStep.{reply_to, refusal_of, refused_or, success_of}
+use Rattle.chv_defs_api.specs.Desks.{Answer, AreAsked, IsOnlyAsked, is_holding}
+use Rattle.chv_defs_control.specs.LegalControl.{answers_by, entries_by}
 use Rattle.chv_store.specs.declared.any_disk.AnyDisk.{AnyDisk}
 use Rattle.chv_control.specs.Control.{Controlled, entered}
 use Rattle.chv_control.specs.Shelf.{shelf_of}

@@ -4,11 +4,11 @@ use Rattle.std.specs.List.{concat}
 use Rattle.std.proofs.lemmas.List.{append-nil, take_min, drop_all}
 use Rattle.std.proofs.lemmas.Bool.{ltb-true, ltb-false}
 use Rattle.std.proofs.Math.Seq.{drop-append_seam, take-append_seam}
-use Rattle.chv_defs.specs.declared.request.Took.{Took}
-use Rattle.chv_defs.specs.declared.request.Took.TheVariants as took
-use Rattle.chv_defs.specs.Requests.{Cuts, IsShort}
-use Rattle.chv_defs.specs.SessionBytes.{AreTaken, AreGiven, asks_for}
-use Rattle.chv_defs.specs.StreamCut.{cut}
+use Rattle.chv_defs_api.specs.declared.request.Took.{Took}
+use Rattle.chv_defs_api.specs.declared.request.Took.TheVariants as took
+use Rattle.chv_defs_api.specs.Requests.{Cuts, IsShort}
+use Rattle.chv_defs_api.specs.SessionBytes.{AreTaken, AreGiven, asks_for}
+use Rattle.chv_defs_api.specs.StreamCut.{cut}
 use Rattle.chv_defs.specs.Schedule.{Standing, next_piece, with_piece, is_not_yet, takes_more, filled}
 use Rattle.chv_http.proofs.CutLemmas.{cuts_is_one}
 use Rattle.chv_http.proofs.CutFunctionLemmas.{cut_gives}

@@ -5,16 +5,16 @@ use Rattle.std.proofs.lemmas.List.Elements.{filter-append}
 use Rattle.std.proofs.lemmas.Grind.{flat_map-append}
 use Rattle.std.proofs.lemmas.Bool.Decides.{nat_tests}
 use Rattle.std.specs.List.{filter, flat_map}
-use Rattle.chv_defs.specs.declared.bank.Full.{Full}
-use Rattle.chv_defs.specs.declared.scene.OnShelf.{OnShelf}
-use Rattle.chv_defs.specs.declared.control.ControlCall.{ControlCall}
-use Rattle.chv_defs.specs.declared.control.ControlCall.TheVariants as call
-use Rattle.chv_defs.specs.declared.control.ControlReply.{ControlReply}
-use Rattle.chv_defs.specs.declared.control.ControlReply.TheVariants as reply
-use Rattle.chv_defs.specs.ApiStep.{reply_to}
-use Rattle.chv_defs.specs.Desks.{Answer, IsOnlyAsked}
-use Rattle.chv_defs.specs.LegalControl.{answers_by}
-use Rattle.chv_defs.specs.Routes.{reply_to_call}
+use Rattle.chv_defs_base.specs.declared.book.Full.{Full}
+use Rattle.chv_defs_api.specs.declared.shelf.OnShelf.{OnShelf}
+use Rattle.chv_defs_api.specs.declared.control.ControlCall.{ControlCall}
+use Rattle.chv_defs_api.specs.declared.control.ControlCall.TheVariants as call
+use Rattle.chv_defs_api.specs.declared.control.ControlReply.{ControlReply}
+use Rattle.chv_defs_api.specs.declared.control.ControlReply.TheVariants as reply
+use Rattle.chv_defs_control.specs.ApiStep.{reply_to}
+use Rattle.chv_defs_api.specs.Desks.{Answer, IsOnlyAsked}
+use Rattle.chv_defs_control.specs.LegalControl.{answers_by}
+use Rattle.chv_defs_api.specs.Routes.{reply_to_call}
 use Rattle.chv_defs.specs.Schedule.{Turn, Answers, Leaves, with_reply, with_entry, after_turn, replies_to}
 use Rattle.chv_defs.specs.Schedule as schedule
 use Rattle.chv_session.specs.declared.next.Next.{Next}

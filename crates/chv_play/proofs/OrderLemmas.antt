@@ -1,10 +1,10 @@
 -- A session that is played makes its calls in order: its turns follow one another from its start.
 use Rattle.std.proofs.Common.{◌≡◌, ◌≢◌, ℕ, Bool, true, false, inl, inr, List, [], ◌∷◌, ◌++◌, None, refl, sym, ap, subst, ◌∙◌}
-use Rattle.chv_defs.specs.declared.session.SessionEnd.{SessionEnd}
-use Rattle.chv_defs.specs.declared.session.SessionEnd.TheVariants as end
-use Rattle.chv_defs.specs.declared.request.Request.{Request}
-use Rattle.chv_defs.specs.Desks.{Answer}
-use Rattle.chv_defs.specs.SessionBytes.{IsSessionLog}
+use Rattle.chv_defs_api.specs.declared.session.SessionEnd.{SessionEnd}
+use Rattle.chv_defs_api.specs.declared.session.SessionEnd.TheVariants as end
+use Rattle.chv_defs_api.specs.declared.request.Request.{Request}
+use Rattle.chv_defs_api.specs.Desks.{Answer}
+use Rattle.chv_defs_api.specs.SessionBytes.{IsSessionLog}
 use Rattle.chv_session.specs.declared.next.Next.{Next}
 use Rattle.chv_session.specs.declared.next.Next.TheVariants as next
 use Rattle.chv_session.specs.declared.state.State.{State}

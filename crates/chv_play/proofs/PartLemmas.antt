@@ -1,6 +1,6 @@
 -- A stream to which parts were appended.
 use Rattle.std.proofs.Common.{◌≡◌, ℕ, List, ◌++◌, sym, ap, ◌∙◌, append_assoc}
-use Rattle.chv_defs.specs.Replies.{line_end}
+use Rattle.chv_defs_api.specs.Replies.{line_end}
 
 -- one part behind another
 pub two_parts : (s t u a b : List ℕ) → t ≡ s ++ a → u ≡ t ++ b → u ≡ s ++ (a ++ b)

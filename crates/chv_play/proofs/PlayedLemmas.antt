@@ -3,22 +3,22 @@ use Rattle.std.proofs.Common.{◌≡◌, ◌≤◌, ◌<◌, ℕ, zero, suc, ◌
 use Rattle.std.specs.List.{enumerate_from, range_with_len, flat_map}
 use Rattle.std.proofs.lemmas.List.{append-nil, map-append, take_more, drop_all, length-map}
 use Rattle.std.proofs.Math.Seq.{take-append_seam, take-length}
-use Rattle.chv_defs.specs.Machine.{empty_machine}
-use Rattle.chv_defs.specs.declared.machine.Machine.{Machine}
-use Rattle.chv_defs.specs.declared.control.ControlEntry.{ControlEntry}
-use Rattle.chv_defs.specs.declared.bank.Full.{Full}
-use Rattle.chv_defs.specs.declared.scene.OnShelf.{OnShelf}
-use Rattle.chv_defs.specs.declared.scene.Asked.{Asked}
+use Rattle.chv_defs_control.specs.Machine.{empty_machine}
+use Rattle.chv_defs_control.specs.declared.machine.Machine.{Machine}
+use Rattle.chv_defs_api.specs.declared.control.ControlEntry.{ControlEntry}
+use Rattle.chv_defs_base.specs.declared.book.Full.{Full}
+use Rattle.chv_defs_api.specs.declared.shelf.OnShelf.{OnShelf}
+use Rattle.chv_defs_scene.specs.declared.scene.Asked.{Asked}
 use Rattle.chv_defs.specs.declared.trace.SessionTrace.{SessionTrace}
-use Rattle.chv_defs.specs.declared.session.SessionEnd.{SessionEnd}
+use Rattle.chv_defs_api.specs.declared.session.SessionEnd.{SessionEnd}
 use Rattle.chv_defs.specs.Schedule.{Visit, Stage, first_stage, after_turns, all_turns, numbered, rounds_of, round_of, visit_of, visit_from, at_start, log_of, trace_of, stream_of, replies_to}
 use Rattle.chv_defs.specs.Schedule.{Standing, Answers, visit_at, last_turns, with_turn, filled}
 use Rattle.chv_defs.specs.Schedule as schedule
-use Rattle.chv_defs.specs.StreamCut.{cut}
-use Rattle.chv_defs.specs.Routes.{call_of_request}
-use Rattle.chv_defs.specs.declared.request.Took.{Took}
-use Rattle.chv_defs.specs.declared.request.Took.TheVariants as took
-use Rattle.chv_defs.specs.declared.session.SessionEnd.TheVariants as end
+use Rattle.chv_defs_api.specs.StreamCut.{cut}
+use Rattle.chv_defs_api.specs.Routes.{call_of_request}
+use Rattle.chv_defs_api.specs.declared.request.Took.{Took}
+use Rattle.chv_defs_api.specs.declared.request.Took.TheVariants as took
+use Rattle.chv_defs_api.specs.declared.session.SessionEnd.TheVariants as end
 use Rattle.chv_session.specs.declared.state.State.{State}
 use Rattle.chv_session.specs.declared.state.State.TheVariants as state
 use Rattle.chv_session.specs.Talk.{Talk, new_talk, end_of}

@@ -3,17 +3,17 @@ use Rattle.std.proofs.Common.{◌≡◌, ◌≢◌, ◌≤◌, ◌<◌, inl, ℕ
 use Rattle.std.specs.List.{concat}
 use Rattle.std.proofs.lemmas.List.{append_cancel_left}
 use Rattle.std.proofs.Math.Seq.{take-nil}
-use Rattle.chv_defs.specs.declared.rule.Rule.{Rule}
-use Rattle.chv_defs.specs.declared.request.Request.{Request}
-use Rattle.chv_defs.specs.declared.request.Took.{Took}
-use Rattle.chv_defs.specs.declared.request.Took.TheVariants as took
-use Rattle.chv_defs.specs.declared.control.ControlCall.{ControlCall}
-use Rattle.chv_defs.specs.declared.session.SessionEnd.{SessionEnd}
-use Rattle.chv_defs.specs.declared.session.SessionEnd.TheVariants as end
-use Rattle.chv_defs.specs.Requests.{BeginsWith, Cuts, IsShort}
-use Rattle.chv_defs.specs.Routes.{call_of_request}
-use Rattle.chv_defs.specs.SessionBytes.{IsBad, asks_for, session_limit}
-use Rattle.chv_defs.specs.StreamCut.{cut}
+use Rattle.chv_defs_base.specs.declared.rule.Rule.{Rule}
+use Rattle.chv_defs_api.specs.declared.request.Request.{Request}
+use Rattle.chv_defs_api.specs.declared.request.Took.{Took}
+use Rattle.chv_defs_api.specs.declared.request.Took.TheVariants as took
+use Rattle.chv_defs_api.specs.declared.control.ControlCall.{ControlCall}
+use Rattle.chv_defs_api.specs.declared.session.SessionEnd.{SessionEnd}
+use Rattle.chv_defs_api.specs.declared.session.SessionEnd.TheVariants as end
+use Rattle.chv_defs_api.specs.Requests.{BeginsWith, Cuts, IsShort}
+use Rattle.chv_defs_api.specs.Routes.{call_of_request}
+use Rattle.chv_defs_api.specs.SessionBytes.{IsBad, asks_for, session_limit}
+use Rattle.chv_defs_api.specs.StreamCut.{cut}
 use Rattle.chv_defs.specs.Schedule.{Standing, next_piece, takes_more, is_not_yet, filled, Visit, Answers, Leaves, with_turn, last_turns, end_at, end_behind, visit_at, visit_from}
 use Rattle.chv_session.specs.declared.state.State.{State}
 use Rattle.chv_session.specs.declared.state.State.TheVariants as state

@@ -1,15 +1,15 @@
 -- The turns of a session: each call of `next` takes the first of those that are left.
 use Rattle.std.proofs.Common.{◌≡◌, ◌<◌, ℕ, zero, suc, ◌+◌, Bool, true, false, cond, List, length, take, refl, sym, ap, subst, ◌∙◌, arith, length-append, length-drop}
 use Rattle.std.proofs.lemmas.List.{length-take}
-use Rattle.chv_defs.specs.declared.request.Request.{Request}
-use Rattle.chv_defs.specs.declared.request.Took.{Took}
-use Rattle.chv_defs.specs.declared.request.Took.TheVariants as took
-use Rattle.chv_defs.specs.declared.session.SessionEnd.TheVariants as end
-use Rattle.chv_defs.specs.HttpFront.{IsFront}
-use Rattle.chv_defs.specs.Requests.{BeginsWith, Cuts}
-use Rattle.chv_defs.specs.Routes.{call_of_request}
-use Rattle.chv_defs.specs.SessionBytes.{asks_for}
-use Rattle.chv_defs.specs.StreamCut.{cut}
+use Rattle.chv_defs_api.specs.declared.request.Request.{Request}
+use Rattle.chv_defs_api.specs.declared.request.Took.{Took}
+use Rattle.chv_defs_api.specs.declared.request.Took.TheVariants as took
+use Rattle.chv_defs_api.specs.declared.session.SessionEnd.TheVariants as end
+use Rattle.chv_defs_api.specs.HttpFront.{IsFront}
+use Rattle.chv_defs_api.specs.Requests.{BeginsWith, Cuts}
+use Rattle.chv_defs_api.specs.Routes.{call_of_request}
+use Rattle.chv_defs_api.specs.SessionBytes.{asks_for}
+use Rattle.chv_defs_api.specs.StreamCut.{cut}
 use Rattle.chv_defs.specs.Schedule.{Standing, with_piece, takes_more, filled, Answers, with_turn, last_turns, visit_at, visit_from}
 use Rattle.chv_http.proofs.CutFunctionLemmas.{cut_gives}
 use Rattle.chv_play.specs.Ahead.{unanswered}

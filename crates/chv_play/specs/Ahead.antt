@@ -1,10 +1,10 @@
 -- What a session that is played has ahead of it: the turns that the schedule gives it from where it stands.
 use Rattle.std.specs.Prelude.{◌≡◌, ℕ, ◌+◌, suc, List, [], ◌∷◌, length}
-use Rattle.chv_defs.specs.declared.control.ControlCall.TheVariants as call
-use Rattle.chv_defs.specs.declared.session.SessionEnd.{SessionEnd}
-use Rattle.chv_defs.specs.declared.session.SessionEnd.TheVariants as end
-use Rattle.chv_defs.specs.Desks.{Answer}
-use Rattle.chv_defs.specs.SessionBytes.{AnsweredBy}
+use Rattle.chv_defs_api.specs.declared.control.ControlCall.TheVariants as call
+use Rattle.chv_defs_api.specs.declared.session.SessionEnd.{SessionEnd}
+use Rattle.chv_defs_api.specs.declared.session.SessionEnd.TheVariants as end
+use Rattle.chv_defs_api.specs.Desks.{Answer}
+use Rattle.chv_defs_api.specs.SessionBytes.{AnsweredBy}
 use Rattle.chv_defs.specs.Schedule.{Standing, Turn, Visit, Answers, Leaves, visit_from, end_of}
 use Rattle.chv_session.specs.declared.state.State.{State}
 use Rattle.chv_session.specs.declared.state.State.TheVariants as state

@@ -1,13 +1,13 @@
 -- What asking a call at the desk of the sessions that are played brings about.
 use Rattle.std.specs.Prelude.{◌≡◌, ◌⊎◌, ℕ, true, List, Option, None, Some, Result, Ok, Err}
-use Rattle.chv_defs.specs.declared.bank.Full.{Full}
-use Rattle.chv_defs.specs.declared.scene.OnShelf.{OnShelf}
-use Rattle.chv_defs.specs.declared.control.ControlCall.{ControlCall}
-use Rattle.chv_defs.specs.declared.control.ControlEntry.{ControlEntry}
-use Rattle.chv_defs.specs.declared.control.ControlReply.{ControlReply}
-use Rattle.chv_defs.specs.ApiStep.{reply_to}
-use Rattle.chv_defs.specs.Desks.{can_have}
-use Rattle.chv_defs.specs.ControlBook.{full_at}
+use Rattle.chv_defs_base.specs.declared.book.Full.{Full}
+use Rattle.chv_defs_api.specs.declared.shelf.OnShelf.{OnShelf}
+use Rattle.chv_defs_api.specs.declared.control.ControlCall.{ControlCall}
+use Rattle.chv_defs_api.specs.declared.control.ControlEntry.{ControlEntry}
+use Rattle.chv_defs_api.specs.declared.control.ControlReply.{ControlReply}
+use Rattle.chv_defs_control.specs.ApiStep.{reply_to}
+use Rattle.chv_defs_api.specs.Desks.{can_have}
+use Rattle.chv_defs_control.specs.ControlBook.{full_at}
 use Rattle.chv_control.specs.Control.{Controlled, entered, entry_of}
 use Rattle.chv_play.specs.declared.desk.PlayDesk.{PlayDesk}
 use Rattle.chv_play.specs.declared.desk.Refused.{Refused}

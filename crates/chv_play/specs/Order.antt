@@ -1,10 +1,10 @@
 -- The calls of a session that is played, as the control history has them: those of its requests, in their order.
 use Rattle.std.specs.Prelude.{◌≡◌, ◌≢◌, ℕ, true, false, List, [], None}
-use Rattle.chv_defs.specs.declared.control.ControlEntry.{ControlEntry}
-use Rattle.chv_defs.specs.declared.session.SessionEnd.TheVariants as end
-use Rattle.chv_defs.specs.Desks.{Answer}
-use Rattle.chv_defs.specs.LegalControl.{answers_by}
-use Rattle.chv_defs.specs.SessionBytes.{IsSessionLog}
+use Rattle.chv_defs_api.specs.declared.control.ControlEntry.{ControlEntry}
+use Rattle.chv_defs_api.specs.declared.session.SessionEnd.TheVariants as end
+use Rattle.chv_defs_api.specs.Desks.{Answer}
+use Rattle.chv_defs_control.specs.LegalControl.{answers_by}
+use Rattle.chv_defs_api.specs.SessionBytes.{IsSessionLog}
 use Rattle.chv_session.specs.declared.state.State.TheVariants as state
 use Rattle.chv_session.specs.Laws.{Runs}
 use Rattle.chv_session.specs.Moment.{Moment, moment}

@@ -1,16 +1,16 @@
 -- What playing sessions comes to.
 use Rattle.std.specs.Prelude.{◌≡◌, ◌≢◌, ◌≤◌, true, ℕ, ◌+◌, List, [], ◌∷◌, length, map, Option, None, Some, Result, Ok, Err}
 use Rattle.std.specs.List.{AllByRecursion, range_with_len}
-use Rattle.chv_defs.specs.declared.bank.Full.{Full}
-use Rattle.chv_defs.specs.declared.context.StopCause.{StopCause}
-use Rattle.chv_defs.specs.declared.context.StopCause.TheVariants as cause
-use Rattle.chv_defs.specs.declared.session.SessionEnd.TheVariants as end
-use Rattle.chv_defs.specs.declared.control.ControlEntry.{ControlEntry}
+use Rattle.chv_defs_base.specs.declared.book.Full.{Full}
+use Rattle.chv_defs_api.specs.declared.context.StopCause.{StopCause}
+use Rattle.chv_defs_api.specs.declared.context.StopCause.TheVariants as cause
+use Rattle.chv_defs_api.specs.declared.session.SessionEnd.TheVariants as end
+use Rattle.chv_defs_api.specs.declared.control.ControlEntry.{ControlEntry}
 use Rattle.chv_defs.specs.declared.trace.Trace.{Trace}
-use Rattle.chv_defs.specs.declared.machine.Machine.{Machine}
-use Rattle.chv_defs.specs.declared.scene.OnShelf.{OnShelf}
-use Rattle.chv_defs.specs.LegalControl.{IsLegal, answers_by}
-use Rattle.chv_defs.specs.SessionBytes.{IsSessionLog}
+use Rattle.chv_defs_control.specs.declared.machine.Machine.{Machine}
+use Rattle.chv_defs_api.specs.declared.shelf.OnShelf.{OnShelf}
+use Rattle.chv_defs_control.specs.LegalControl.{IsLegal, answers_by}
+use Rattle.chv_defs_api.specs.SessionBytes.{IsSessionLog}
 use Rattle.chv_defs.specs.declared.trace.SessionTrace.{SessionTrace}
 use Rattle.chv_session.specs.Talk.{new_talk, end_of}
 use Rattle.chv_session.specs.Step.{is_over}

@@ -1,10 +1,10 @@
 -- Where a run of sessions stands: the turns that are left, and what has come of those that were taken.
 use Rattle.std.specs.Prelude.{◌≡◌, ℕ, zero, suc, ◌+◌, List, [], ◌∷◌, ◌++◌, drop, slice_get, Result}
 use Rattle.std.specs.List.{cons_option}
-use Rattle.chv_defs.specs.declared.bank.Full.{Full}
-use Rattle.chv_defs.specs.declared.machine.Machine.{Machine}
-use Rattle.chv_defs.specs.declared.scene.OnShelf.{OnShelf}
-use Rattle.chv_defs.specs.declared.control.ControlEntry.{ControlEntry}
+use Rattle.chv_defs_base.specs.declared.book.Full.{Full}
+use Rattle.chv_defs_control.specs.declared.machine.Machine.{Machine}
+use Rattle.chv_defs_api.specs.declared.shelf.OnShelf.{OnShelf}
+use Rattle.chv_defs_api.specs.declared.control.ControlEntry.{ControlEntry}
 use Rattle.chv_defs.specs.Schedule.{Turn, Visit, Stage, turn_of, numbered, all_turns, after_turns, replies_to, visit_of, end_of}
 use Rattle.chv_play.specs.declared.seat.Seat.{Seat}
 use Rattle.chv_play.specs.Ahead.{Ahead, ahead_of}

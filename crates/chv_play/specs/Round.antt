@@ -1,8 +1,8 @@
 -- What a turn of a seat does to the control value, and where a run stands.
 use Rattle.std.specs.Prelude.{◌≡◌, ◌≢◌, ◌⊎◌, ℕ, map, List, [], ◌++◌, Option, None, Some, Result, Ok, Err}
-use Rattle.chv_defs.specs.declared.bank.Full.{Full}
-use Rattle.chv_defs.specs.declared.scene.OnShelf.{OnShelf}
-use Rattle.chv_defs.specs.LegalControl.{answers_by}
+use Rattle.chv_defs_base.specs.declared.book.Full.{Full}
+use Rattle.chv_defs_api.specs.declared.shelf.OnShelf.{OnShelf}
+use Rattle.chv_defs_control.specs.LegalControl.{answers_by}
 use Rattle.chv_defs.specs.Schedule.{Turn, Stage, after_turn, after_turns, first_stage, all_turns, numbered, visit_of, replies_to}
 use Rattle.chv_control.specs.Control.{Controlled}
 use Rattle.chv_play.specs.declared.seat.Seat.{Seat}

@@ -1,8 +1,8 @@
 -- What a session does in one turn.
 use Rattle.std.specs.Prelude.{◌≡◌, ℕ, List, [], ◌∷◌, ◌++◌, Option, None, Some, Ok, Err}
-use Rattle.chv_defs.specs.declared.control.ControlCall.{ControlCall}
-use Rattle.chv_defs.specs.declared.control.ControlCall.TheVariants as call
-use Rattle.chv_defs.specs.Desks.{Answer}
+use Rattle.chv_defs_api.specs.declared.control.ControlCall.{ControlCall}
+use Rattle.chv_defs_api.specs.declared.control.ControlCall.TheVariants as call
+use Rattle.chv_defs_api.specs.Desks.{Answer}
 use Rattle.chv_defs.specs.Schedule.{Turn, Answers, Leaves}
 use Rattle.chv_session.specs.Talk.{Talk}
 use Rattle.chv_play.specs.Ahead.{Ahead, ahead_of, with_first, Does}

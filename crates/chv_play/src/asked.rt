@@ -1,9 +1,9 @@
 // The bytes that the requests of a session stand for.
 ghost use Rattle.std.specs.Prelude.{◌≡◌, ◌++◌, IfOk, OnOk};
-ghost use Rattle.chv_defs.specs.declared.scene.Asked.TheVariants as asked;
-ghost use Rattle.chv_defs.specs.Numbers.{dec_text};
-ghost use Rattle.chv_defs.specs.Replies.{length_text, line_end};
-ghost use Rattle.chv_defs.specs.SceneText.{request_bytes, put_bytes, host_part};
+ghost use Rattle.chv_defs_scene.specs.declared.scene.Asked.TheVariants as asked;
+ghost use Rattle.chv_defs_base.specs.Numbers.{dec_text};
+ghost use Rattle.chv_defs_api.specs.Replies.{length_text, line_end};
+ghost use Rattle.chv_defs_scene.specs.SceneText.{request_bytes, put_bytes, host_part};
 ghost use Rattle.chv_defs.specs.Schedule.{stream_of};
 
 use chv_defs::{Asked, Row};

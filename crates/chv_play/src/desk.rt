@@ -1,9 +1,9 @@
 // The desk of the sessions that are played.
 ghost use Rattle.std.specs.Prelude.{◌≡◌, ◌≢◌, ◌≤◌, true, false, None, Some};
-ghost use Rattle.chv_defs.specs.Desks.{is_held};
-ghost use Rattle.chv_defs.specs.LegalControl.{answers_by};
-ghost use Rattle.chv_defs.specs.ControlStep.{MayCall};
-ghost use Rattle.chv_defs.specs.Desks.{is_session_call};
+ghost use Rattle.chv_defs_api.specs.Desks.{is_held};
+ghost use Rattle.chv_defs_control.specs.LegalControl.{answers_by};
+ghost use Rattle.chv_defs_control.specs.ControlStep.{MayCall};
+ghost use Rattle.chv_defs_api.specs.Desks.{is_session_call};
 ghost use Rattle.chv_play.specs.Desk.{full_of, full_for, IsAnswered};
 
 use chv_control::{Control, Inner};

@@ -1,7 +1,7 @@
 // Plays the sessions of a scenario.
 ghost use Rattle.std.specs.Prelude.{◌≡◌, ◌≤◌, [], length, map, None, Some, IfOk};
 ghost use Rattle.chv_session.specs.Talk.{end_of};
-ghost use Rattle.chv_defs.specs.Machine.{empty_machine};
+ghost use Rattle.chv_defs_control.specs.Machine.{empty_machine};
 ghost use Rattle.chv_defs.specs.Schedule.{schedule, stream_of};
 ghost use Rattle.chv_control.specs.Shelf.{shelf_of, sectors_of};
 ghost use Rattle.chv_play.specs.Played.{AreNewSeats, logs_at, trace_with, Gives, Comes};

@@ -22,7 +22,7 @@ pub(crate) struct Seat {
 
 impl Seat {
     ghost use Rattle.std.specs.Prelude.{◌≡◌, false, IfOk};
-    ghost use Rattle.chv_defs.specs.Machine.{IsSession};
+    ghost use Rattle.chv_defs_api.specs.Desks.{IsSession};
     ghost use Rattle.chv_defs.specs.Schedule.{stream_of};
     ghost use Rattle.chv_control.specs.Shelf.{shelf_of, sectors_of};
     ghost use Rattle.chv_play.specs.Played.{IsNewSeat};

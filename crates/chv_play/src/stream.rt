@@ -1,8 +1,8 @@
 // The stream of a session that is played.
 ghost use Rattle.std.specs.Prelude.{◌≡◌, ◌<◌, ◌-◌, ◌^◌, length, drop, min, false, None, Some, IsOk, IfOk};
 ghost use Rattle.std.specs.Io.{ReadsAtMost};
-ghost use Rattle.chv_defs.specs.Outside.{Takes, Puts, HasCause};
-ghost use Rattle.chv_defs.specs.Links.{ReadLeaves, WriteLeaves, Fills};
+ghost use Rattle.chv_io.specs.Outside.{Takes, Puts, HasCause};
+ghost use Rattle.chv_io.specs.Links.{ReadLeaves, WriteLeaves, Fills};
 
 use chv_io::{Failed, Link, Sink, Source, copy_front};
 use std::marker::Model;
@@ -42,7 +42,7 @@ impl StreamLink {
 
 impl Source for StreamLink {
     ghost use Rattle.std.specs.Prelude.{◌-◌, ◌^◌, None, Some, length};
-    ghost use Rattle.chv_defs.specs.Links.{ReadLeaves, Fills};
+    ghost use Rattle.chv_io.specs.Links.{ReadLeaves, Fills};
 
     ghost left = { λ s. Some s.left };
 
@@ -73,7 +73,7 @@ impl Source for StreamLink {
 
 impl Sink for StreamLink {
     ghost use Rattle.std.specs.Prelude.{None, Some};
-    ghost use Rattle.chv_defs.specs.Links.{WriteLeaves};
+    ghost use Rattle.chv_io.specs.Links.{WriteLeaves};
 
     ghost written = { λ _. None };
 

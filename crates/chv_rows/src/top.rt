@@ -1,6 +1,6 @@
 // The program with disks that stand by, words that are not its own, and each fault of the outside. Scenarios without disks are
 // in the folder of samples.
-use chv_defs::{Bytes, Name, Row};
+use chv_defs_base::{Bytes, Name, Row};
 use chv_io::{MemSink, MemSource};
 use chv_samples::{name, numbers};
 use chv_store::MemDisk;

@@ -1,10 +1,10 @@
 // Places at the edges of runs, blocks and windows.
 ghost use Rattle.std.specs.Prelude.{◌≡◌, true, IfOk};
-ghost use Rattle.chv_defs.specs.AddressMap.{is_within_limits};
+ghost use Rattle.chv_addr.specs.AddressMap.{is_within_limits};
 
-use chv_addr::{AddrMap, checked_zones_fit};
+use chv_addr::{AddrMap, Place, Region, checked_zones_fit};
 use chv_config::check;
-use chv_defs::{Checked, Hotplug, Place, Region, Row, Text, VmConfig, ZoneConfig};
+use chv_defs::{Checked, Hotplug, Row, Text, VmConfig, ZoneConfig};
 use chv_samples::plain_config;
 use std::alloc::{AllocError, Global};
 use std::test::Fail;

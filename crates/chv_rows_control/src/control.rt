@@ -1,6 +1,6 @@
 // A full book, what a machine shows, and the laws.
 ghost use Rattle.std.specs.Prelude.{◌≡◌, true, IfOk};
-ghost use Rattle.chv_defs.specs.declared.machine.Life.TheVariants as life;
+ghost use Rattle.chv_defs_control.specs.declared.machine.Life.TheVariants as life;
 
 use chv_control::{Control, Inner, Start, refusals_change_nothing};
 use chv_ctl_api::{answers_fit, refused_calls_change_nothing, states_stay_well_formed};

@@ -1,7 +1,7 @@
 // The calls of the API on one machine, step by step: what each is answered, and what it leaves.
 ghost use Rattle.std.specs.Prelude.{◌≡◌, true};
-ghost use Rattle.chv_defs.specs.Desks.{is_session_call};
-ghost use Rattle.chv_defs.specs.Machine.{IsWellFormed};
+ghost use Rattle.chv_defs_api.specs.Desks.{is_session_call};
+ghost use Rattle.chv_defs_control.specs.Machine.{IsWellFormed};
 
 use chv_ctl_api::api_step;
 use chv_defs::{

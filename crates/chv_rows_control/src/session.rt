@@ -1,6 +1,6 @@
 ghost use Rattle.std.specs.Prelude.{◌≡◌, ◌++◌, ◌∷◌, [], true, false, IfOk, IfSome, OnErr, OnOk};
-ghost use Rattle.chv_defs.specs.Machine.{IsSession};
-ghost use Rattle.chv_defs.specs.Desks.{can_have, is_held};
+ghost use Rattle.chv_defs_api.specs.Desks.{IsSession};
+ghost use Rattle.chv_defs_api.specs.Desks.{can_have, is_held};
 
 use chv_defs::{
     Bytes, ControlCall, ControlReply, Desk, SessionEnd, SessionLog, Stopped, beside, copy_of,
@@ -32,7 +32,7 @@ struct Made {
 }
 
 impl Model for Made {
-    ghost use Rattle.chv_defs.specs.Desks.{Answer};
+    ghost use Rattle.chv_defs_api.specs.Desks.{Answer};
 
     ghost Value = { Answer };
 

@@ -3,18 +3,18 @@ use Rattle.std.proofs.Common.{◌≡◌, ℕ, ◌<◌, ◌≤◌, Bool, true, fa
 use Rattle.std.specs.Prelude.{◌&&◌, nat_le}
 use Rattle.std.proofs.lemmas.List.FromFn.{get_or-map-range_with_len}
 use Rattle.std.proofs.lemmas.Bool.Decides.{nat_tests}
-use Rattle.chv_defs.specs.declared.bank.BankCall.TheVariants as call
-use Rattle.chv_defs.specs.declared.bank.BankReply.TheVariants as reply
-use Rattle.chv_defs.specs.declared.config.Checked.{Checked}
-use Rattle.chv_defs.specs.declared.machine.Machine.{Machine}
-use Rattle.chv_defs.specs.declared.machine.Life.{Life}
-use Rattle.chv_defs.specs.declared.machine.Life.TheVariants as life
-use Rattle.chv_defs.specs.ApiStep.{is_paused}
-use Rattle.chv_defs.specs.BankBook.{BankBook, fresh}
-use Rattle.chv_defs.specs.BankState.{banks}
-use Rattle.chv_defs.specs.Machine.{HasChecked, IsUnpaused}
-use Rattle.chv_defs.specs.OwnerCalls.{zones_in, zones_of}
-use Rattle.chv_defs.specs.Zones.{Known}
+use Rattle.chv_defs_memory.specs.declared.bank.BankCall.TheVariants as call
+use Rattle.chv_defs_memory.specs.declared.bank.BankReply.TheVariants as reply
+use Rattle.chv_defs_api.specs.declared.config.Checked.{Checked}
+use Rattle.chv_defs_control.specs.declared.machine.Machine.{Machine}
+use Rattle.chv_defs_control.specs.declared.machine.Life.{Life}
+use Rattle.chv_defs_control.specs.declared.machine.Life.TheVariants as life
+use Rattle.chv_defs_control.specs.ApiStep.{is_paused}
+use Rattle.chv_defs_memory.specs.BankBook.{BankBook, fresh}
+use Rattle.chv_defs_memory.specs.BankState.{banks}
+use Rattle.chv_defs_control.specs.Machine.{HasChecked, IsUnpaused}
+use Rattle.chv_defs_control.specs.OwnerCalls.{zones_in, zones_of}
+use Rattle.chv_defs_memory.specs.Zones.{Known}
 use Rattle.chv_guest.specs.LentBanks.{bank_at, bank_count, fresh_at, fresh_banks, known_at, place_of}
 use Rattle.chv_addr.proofs.Limits.{checked-within}
 use Rattle.chv_ctl_mem.specs.ZoneCalls.{AreAtRest, IsAtRest}

@@ -1,10 +1,10 @@
 -- What the owner's calls leave while no context is lent.
 use Rattle.std.proofs.Common.{◌≡◌, ℕ, ◌+◌, ◌<◌, true, [], Result, Ok, Err, arith}
 use Rattle.std.specs.Result.{is_ok}
-use Rattle.chv_defs.specs.declared.bank.Refusal.{Refusal}
-use Rattle.chv_defs.specs.BankState.{banks}
-use Rattle.chv_defs.specs.Zones.{Known, MakesRoom}
-use Rattle.chv_defs.proofs.ZoneLaws.{makes-room-none}
+use Rattle.chv_defs_memory.specs.declared.bank.Refusal.{Refusal}
+use Rattle.chv_defs_memory.specs.BankState.{banks}
+use Rattle.chv_defs_memory.specs.Zones.{Known, MakesRoom}
+use Rattle.chv_defs_memory.proofs.ZoneLaws.{makes-room-none}
 
 -- room that was made in the lowest bank
 pub room_made : (before after : ℕ → Known) (zone entries pages : ℕ) (answer : Result (Unit {0}) Refusal) → MakesRoom [] before after zone entries pages tt answer → is_ok answer ≡ true

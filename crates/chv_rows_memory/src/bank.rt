@@ -1,13 +1,14 @@
 // An unplug from its pin to the next plug, the refusals in their order, and each call once with ample memory.
-ghost use Rattle.chv_defs.specs.BankBook.{fresh, owner_reply, pages_used, with_entry, HasItsNumber};
-ghost use Rattle.chv_defs.specs.BankState.{is_owner_call, IsCall};
-ghost use Rattle.chv_defs.specs.LegalBank.{access_reply, OwnerMay};
-ghost use Rattle.chv_defs.specs.declared.bank.BankCall.TheVariants as call;
-ghost use Rattle.chv_defs.specs.declared.bank.BankReply.TheVariants as reply;
+ghost use Rattle.chv_defs_memory.specs.BankBook.{fresh, owner_reply, pages_used, with_entry, HasItsNumber};
+ghost use Rattle.chv_defs_memory.specs.BankState.{is_owner_call, IsCall};
+ghost use Rattle.chv_defs_memory.specs.LegalBank.{access_reply, OwnerMay};
+ghost use Rattle.chv_defs_memory.specs.declared.bank.BankCall.TheVariants as call;
+ghost use Rattle.chv_defs_memory.specs.declared.bank.BankReply.TheVariants as reply;
 ghost use Rattle.std.specs.Prelude.{◌≡◌, ◌-◌, ◌<◌, ◌≤◌, [], ◌∷◌, true, false, IfOk, length};
 
 use chv_bank::Bank;
-use chv_defs::{BankCall, BankReply, BookId, Bytes, Full, Refusal, Span};
+use chv_defs_base::{BookId, Bytes, Full};
+use chv_defs_memory::{BankCall, BankReply, Refusal, Span};
 use std::alloc::{AllocError, Global};
 use std::test::Fail;
 

@@ -1,20 +1,20 @@
 // What a boot and a delete do to the banks of all zones.
-ghost use Rattle.chv_defs.specs.Machine.{HasChecked, IsWellFormed};
-ghost use Rattle.chv_defs.specs.OwnerCalls.{zones_of};
-ghost use Rattle.chv_defs.specs.Zones.{most_zones, OtherZonesStay};
-ghost use Rattle.chv_defs.specs.declared.bank.BankCall.TheVariants as call;
-ghost use Rattle.chv_defs.specs.declared.bank.BankReply.TheVariants as reply;
-ghost use Rattle.chv_defs.specs.declared.machine.Life.TheVariants as life;
+ghost use Rattle.chv_defs_control.specs.Machine.{HasChecked, IsWellFormed};
+ghost use Rattle.chv_defs_control.specs.OwnerCalls.{zones_of};
+ghost use Rattle.chv_defs_memory.specs.Zones.{most_zones, OtherZonesStay};
+ghost use Rattle.chv_defs_memory.specs.declared.bank.BankCall.TheVariants as call;
+ghost use Rattle.chv_defs_memory.specs.declared.bank.BankReply.TheVariants as reply;
+ghost use Rattle.chv_defs_control.specs.declared.machine.Life.TheVariants as life;
 ghost use Rattle.chv_guest.specs.LentBanks.{fresh_banks, known_at};
 ghost use Rattle.std.specs.Prelude.{◌≡◌, ◌<◌, ℕ, [], ◌∷◌, true, length, IfOk};
 
 use crate::guest::has_room;
 use chv_ctl_api::api_step;
 use chv_ctl_mem::{boot_zones, wipe_all};
-use chv_defs::{
-    BankCall, BankEntry, BankReply, ControlCall, CpuConfig, Hotplug, Life, Machine, MemConfig,
-    OnShelf, Row, Text, VmConfig, ZoneConfig, Zones,
-};
+use chv_defs_api::{ControlCall, CpuConfig, Hotplug, MemConfig, OnShelf, VmConfig, ZoneConfig};
+use chv_defs_base::{Row, Text};
+use chv_defs_control::{Life, Machine};
+use chv_defs_memory::{BankCall, BankEntry, BankReply, Zones};
 use chv_guest::LentBanks;
 use chv_samples::plain_config;
 use std::alloc::{AllocError, Global};

@@ -1,13 +1,14 @@
 // The banks of all zones, as their owner reaches them: each call once with ample memory.
-ghost use Rattle.chv_defs.specs.declared.bank.BankCall.TheVariants as call;
-ghost use Rattle.chv_defs.specs.declared.bank.BankReply.TheVariants as reply;
-ghost use Rattle.chv_defs.specs.Zones.{most_zones, OtherZonesStay};
+ghost use Rattle.chv_defs_memory.specs.declared.bank.BankCall.TheVariants as call;
+ghost use Rattle.chv_defs_memory.specs.declared.bank.BankReply.TheVariants as reply;
+ghost use Rattle.chv_defs_memory.specs.Zones.{most_zones, OtherZonesStay};
 ghost use Rattle.chv_guest.specs.LentBanks.{fresh_banks, known_at};
 ghost use Rattle.std.specs.Prelude.{◌≡◌, ◌<◌, [], ◌∷◌, true, IfOk, length};
 
 use crate::pages::is_page;
 use chv_bank::Bank;
-use chv_defs::{BankCall, BankEntry, BankReply, BookId, Bytes, Full, Refusal, Zones};
+use chv_defs_base::{BookId, Bytes, Full};
+use chv_defs_memory::{BankCall, BankEntry, BankReply, Refusal, Zones};
 use chv_guest::LentBanks;
 use std::alloc::{AllocError, Global};
 use std::test::Fail;

@@ -1,7 +1,7 @@
 // Reads and writes across the edges of pages, and pages that are filled, cleared and listed.
 ghost use Rattle.std.specs.Prelude.{◌≡◌, ◌+◌, ◌<◌, ◌≤◌, IfOk, length};
 
-use chv_defs::PageAt;
+use chv_defs_memory::PageAt;
 use chv_pages::Pages;
 use std::alloc::{AllocError, Global};
 use std::test::Fail;

@@ -1,7 +1,7 @@
 // One small set of each kind. The contracts say the rest.
 ghost use Rattle.std.specs.Prelude.{◌+◌, ◌<◌, ◌≤◌};
 
-use chv_defs::Span;
+use chv_defs_memory::Span;
 use chv_set::BlockSet;
 use std::alloc::{AllocError, Global};
 use std::test::Fail;

@@ -1,7 +1,8 @@
 //! What the rows of several crates begin with: names, numbers, a plain disk and a plain configuration.
 #![tactic(auto)]
 
-use chv_defs::{CpuConfig, DiskConfig, Hotplug, MemConfig, Name, Row, Text, VmConfig};
+use chv_defs_api::{CpuConfig, DiskConfig, Hotplug, MemConfig, VmConfig};
+use chv_defs_base::{Name, Row, Text};
 use std::alloc::{AllocError, Global};
 use std::test::Fail;
 

@@ -1,6 +1,6 @@
 -- A text is cut at a byte: its fields at a space, its lines at a line feed.
 use Rattle.std.proofs.Common.{◌≡◌, ℕ, ◌<◌, ◌≤◌, ◌==◌, Bool, true, false, if◌then◌else◌, List, [], ◌∷◌, length, Option, None, Some, refl, ap, arith}
-use Rattle.chv_defs.specs.ScenarioText.{Line, lines_of, onto_line}
+use Rattle.chv_defs_scene.specs.ScenarioText.{Line, lines_of, onto_line}
 use Rattle.chv_scene.specs.Cuts.{cut_at}
 
 -- whether something stands behind

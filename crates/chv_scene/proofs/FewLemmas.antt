@@ -2,11 +2,11 @@
 use Rattle.std.proofs.Common.{◌≡◌, ℕ, ◌+◌, ◌<◌, ◌≤◌, ◌==◌, nat_lt, Bool, true, false, List, [], ◌∷◌, length, codes, Option, None, Some, Result, Ok, Err, IfOk, refl, sym, subst, arith}
 use Rattle.std.specs.Str.{bytes_eq}
 use Rattle.std.proofs.lemmas.Bool.{ltb-true}
-use Rattle.chv_defs.specs.ScenarioText.{Line, lines_of, Part, Asks, Ends, section_line, session_fault, late_disk, late_vcpu, late, early_word, top_word, top_line, at_space, Fault, Sessions, with_request, with_session, section_part, top_part, read_lines, read_scenario}
-use Rattle.chv_defs.specs.declared.scene.Asked.{Asked}
-use Rattle.chv_defs.specs.declared.scene.Scene.{Scene}
-use Rattle.chv_defs.specs.declared.rule.Reason.{Reason}
-use Rattle.chv_defs.specs.declared.rule.Reason.TheVariants.{TooMany, UnknownWord, NotBuilt}
+use Rattle.chv_defs_scene.specs.ScenarioText.{Line, lines_of, Part, Asks, Ends, section_line, session_fault, late_disk, late_vcpu, late, early_word, top_word, top_line, at_space, Fault, Sessions, with_request, with_session, section_part, top_part, read_lines, read_scenario}
+use Rattle.chv_defs_scene.specs.declared.scene.Asked.{Asked}
+use Rattle.chv_defs_scene.specs.declared.scene.Scene.{Scene}
+use Rattle.chv_defs_base.specs.declared.rule.Reason.{Reason}
+use Rattle.chv_defs_base.specs.declared.rule.Reason.TheVariants.{TooMany, UnknownWord, NotBuilt}
 use Rattle.chv_scene.specs.Answer.{answer_of}
 use Rattle.chv_scene.specs.declared.scenario.SceneFault.{SceneFault}
 use Rattle.chv_scene.proofs.SpellingLemmas.{by_test, some_fault, unchanged}

@@ -4,12 +4,12 @@ use Rattle.std.specs.Char.{digit_value}
 use Rattle.std.specs.List.{list_all}
 use Rattle.std.specs.Str.{bytes_eq}
 use Rattle.std.proofs.lemmas.Bool.{and_parts, and_from, lt-ltb, cond-false, ne_eqb}
-use Rattle.chv_defs.specs.Numbers.{is_hex_digit, bytes_in, bytes_of}
-use Rattle.chv_defs.specs.ScenarioText.{Line, lines_of, onto_line, at_space, has_space, is_route_name, Part, Asks, Ends, get_line, put_name, put_line, raw_line, end_line, section_word, section_line, top_line, Fault, Sessions, with_request, with_session, section_part, top_part, read_lines, read_scenario, is_request, IsScenario}
-use Rattle.chv_defs.specs.declared.scene.Asked.{Asked}
-use Rattle.chv_defs.specs.declared.scene.Asked.TheVariants as asked
-use Rattle.chv_defs.specs.declared.rule.Reason.{Reason}
-use Rattle.chv_defs.specs.declared.rule.Reason.TheVariants.{UnknownWord, FieldCount, BadName}
+use Rattle.chv_defs_base.specs.Numbers.{is_hex_digit, bytes_in, bytes_of}
+use Rattle.chv_defs_scene.specs.ScenarioText.{Line, lines_of, onto_line, at_space, has_space, is_route_name, Part, Asks, Ends, get_line, put_name, put_line, raw_line, end_line, section_word, section_line, top_line, Fault, Sessions, with_request, with_session, section_part, top_part, read_lines, read_scenario, is_request, IsScenario}
+use Rattle.chv_defs_scene.specs.declared.scene.Asked.{Asked}
+use Rattle.chv_defs_scene.specs.declared.scene.Asked.TheVariants as asked
+use Rattle.chv_defs_base.specs.declared.rule.Reason.{Reason}
+use Rattle.chv_defs_base.specs.declared.rule.Reason.TheVariants.{UnknownWord, FieldCount, BadName}
 use Rattle.chv_num.proofs.Bases.{hex_base}
 use Rattle.chv_num.proofs.HexSpelling.{chosen}
 use Rattle.chv_scene.proofs.SpellingLemmas.{by_test, no_fault, unchanged, raw_is, scenario_spelled}

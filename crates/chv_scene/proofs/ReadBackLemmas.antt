@@ -3,12 +3,12 @@ use Rattle.std.proofs.Common.{◌≡◌, ℕ, ◌+◌, ◌/◌, ◌%◌, ◌<◌
 use Rattle.std.specs.Fmt.{digit_glyph}
 use Rattle.std.specs.List.{list_all}
 use Rattle.std.proofs.lemmas.Bool.{agree_below_at, and_parts, and_from, or_from, cond-true, cond-false, ne_eqb, ltb-true, lt-ltb}
-use Rattle.chv_defs.specs.Numbers.{is_hex_digit, pairs, bytes_of}
-use Rattle.chv_defs.specs.ScenarioText.{Line, lines_of, onto_line, at_space, has_space, is_route_byte, is_route_name, Asks, named, put_name, raw_bytes, section_line, Sessions, with_request, with_session, of_sessions, section_part, top_part, read_lines, read_scenario, is_request, IsScenario}
-use Rattle.chv_defs.specs.SceneText.{request_line, session_section}
-use Rattle.chv_defs.specs.declared.scene.Asked.{Asked}
-use Rattle.chv_defs.specs.declared.scene.Asked.TheVariants as asked
-use Rattle.chv_defs.specs.declared.rule.Reason.TheVariants.{BadName, FieldCount, TooMany}
+use Rattle.chv_defs_base.specs.Numbers.{is_hex_digit, pairs, bytes_of}
+use Rattle.chv_defs_scene.specs.ScenarioText.{Line, lines_of, onto_line, at_space, has_space, is_route_byte, is_route_name, Asks, named, put_name, raw_bytes, section_line, Sessions, with_request, with_session, of_sessions, section_part, top_part, read_lines, read_scenario, is_request, IsScenario}
+use Rattle.chv_defs_scene.specs.SceneText.{request_line, session_section}
+use Rattle.chv_defs_scene.specs.declared.scene.Asked.{Asked}
+use Rattle.chv_defs_scene.specs.declared.scene.Asked.TheVariants as asked
+use Rattle.chv_defs_base.specs.declared.rule.Reason.TheVariants.{BadName, FieldCount, TooMany}
 use Rattle.chv_num.proofs.PairSpelling.{pairs_read_back}
 use Rattle.chv_scene.proofs.GrammarLemmas.{no_feed, are_requests, all_requests}
 

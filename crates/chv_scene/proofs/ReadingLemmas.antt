@@ -1,8 +1,8 @@
 -- How a reading goes on by a line.
 use Rattle.std.proofs.Common.{◌≡◌, ℕ, ◌+◌, true, false, List, [], ◌∷◌, ◌++◌, length, Option, None, Some, Result, Ok, Err, IsSome, IsNone, refl, sym, ◌∙◌, ap, ap₂, append_assoc, length-append}
-use Rattle.chv_defs.specs.ScenarioText.{Line, Part, Asks, Ends, Fault, Sessions, with_request, with_session, of_sessions, read_lines, section_part, section_word, at_space, top_part, top_word}
-use Rattle.chv_defs.specs.declared.scene.Asked.{Asked}
-use Rattle.chv_defs.specs.declared.rule.Reason.{Reason}
+use Rattle.chv_defs_scene.specs.ScenarioText.{Line, Part, Asks, Ends, Fault, Sessions, with_request, with_session, of_sessions, read_lines, section_part, section_word, at_space, top_part, top_word}
+use Rattle.chv_defs_scene.specs.declared.scene.Asked.{Asked}
+use Rattle.chv_defs_base.specs.declared.rule.Reason.{Reason}
 use Rattle.chv_scene.specs.Reading.{with_requests, read_from, with_asked, with_ended}
 
 -- a fault stays

@@ -3,13 +3,13 @@ use Rattle.std.proofs.Common.{◌≡◌, ℕ, ◌+◌, ◌==◌, Bool, true, fal
 use Rattle.std.specs.Str.{bytes_eq}
 use Rattle.std.proofs.lemmas.Bool.{eqb-true}
 use Rattle.std.proofs.lemmas.Slice.Eq.{bytes_eq-Decides}
-use Rattle.chv_defs.specs.Numbers.{bytes_of}
-use Rattle.chv_defs.specs.ScenarioText.{Line, lines_of, onto_line, at_space, has_space, is_route_name, Part, Asks, Ends, get_line, put_name, put_line, raw_bytes, raw_line, end_line, section_word, section_line, session_fault, late_disk, late_vcpu, late, early_word, top_word, top_line, Fault, Sessions, with_request, with_session, of_sessions, section_part, top_part, read_lines, read_scenario}
-use Rattle.chv_defs.specs.SceneText.{request_line, session_section}
-use Rattle.chv_defs.specs.declared.scene.Asked.{Asked}
-use Rattle.chv_defs.specs.declared.scene.Asked.TheVariants as asked
-use Rattle.chv_defs.specs.declared.rule.Reason.{Reason}
-use Rattle.chv_defs.specs.declared.rule.Reason.TheVariants.{UnknownWord, FieldCount, BadName, NotBuilt}
+use Rattle.chv_defs_base.specs.Numbers.{bytes_of}
+use Rattle.chv_defs_scene.specs.ScenarioText.{Line, lines_of, onto_line, at_space, has_space, is_route_name, Part, Asks, Ends, get_line, put_name, put_line, raw_bytes, raw_line, end_line, section_word, section_line, session_fault, late_disk, late_vcpu, late, early_word, top_word, top_line, Fault, Sessions, with_request, with_session, of_sessions, section_part, top_part, read_lines, read_scenario}
+use Rattle.chv_defs_scene.specs.SceneText.{request_line, session_section}
+use Rattle.chv_defs_scene.specs.declared.scene.Asked.{Asked}
+use Rattle.chv_defs_scene.specs.declared.scene.Asked.TheVariants as asked
+use Rattle.chv_defs_base.specs.declared.rule.Reason.{Reason}
+use Rattle.chv_defs_base.specs.declared.rule.Reason.TheVariants.{UnknownWord, FieldCount, BadName, NotBuilt}
 use Rattle.chv_num.proofs.PairSpelling.{pairs_one_spelling}
 
 -- ---- texts of parts

@@ -1,7 +1,7 @@
 -- What the reader answers, in the words of the definitions.
 use Rattle.std.specs.Prelude.{[], None, Result, Ok, Err}
-use Rattle.chv_defs.specs.ScenarioText.{Fault, Sessions}
-use Rattle.chv_defs.specs.declared.scene.Scene.{Scene}
+use Rattle.chv_defs_scene.specs.ScenarioText.{Fault, Sessions}
+use Rattle.chv_defs_scene.specs.declared.scene.Scene.{Scene}
 use Rattle.chv_scene.specs.declared.scenario.SceneFault.{SceneFault}
 
 -- the scene of these sessions, with no disk, no vCPU and no order

@@ -1,8 +1,8 @@
 -- What was read so far, and what is read from there on.
 use Rattle.std.specs.Prelude.{ℕ, ◌+◌, true, false, List, [], ◌∷◌, ◌++◌, length, Option, None, Some, Result, Ok, Err}
-use Rattle.chv_defs.specs.ScenarioText.{Line, Part, Asks, Ends, Fault, Sessions, with_request, of_sessions, read_lines}
-use Rattle.chv_defs.specs.declared.scene.Asked.{Asked}
-use Rattle.chv_defs.specs.declared.rule.Reason.{Reason}
+use Rattle.chv_defs_scene.specs.ScenarioText.{Line, Part, Asks, Ends, Fault, Sessions, with_request, of_sessions, read_lines}
+use Rattle.chv_defs_scene.specs.declared.scene.Asked.{Asked}
+use Rattle.chv_defs_base.specs.declared.rule.Reason.{Reason}
 use Rattle.chv_scene.specs.declared.section.Meaning.{Meaning}
 use Rattle.chv_scene.specs.declared.section.Meaning.TheVariants as meaning
 use Rattle.chv_scene.specs.declared.reading.Reading.{Reading}

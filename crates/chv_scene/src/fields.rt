@@ -2,8 +2,8 @@
 ghost use Rattle.std.specs.Prelude.{◌≡◌, ◌==◌, ◌&&◌, nat_le, length, option_map};
 ghost use Rattle.std.specs.List.{list_all};
 ghost use Rattle.std.specs.Str.{bytes_eq};
-ghost use Rattle.chv_defs.specs.ScenarioText.{is_route_byte};
-ghost use Rattle.chv_defs.specs.ScenarioText as line;
+ghost use Rattle.chv_defs_scene.specs.ScenarioText.{is_route_byte};
+ghost use Rattle.chv_defs_scene.specs.ScenarioText as line;
 ghost use Rattle.chv_scene.specs.Cuts.{cut_at};
 
 use chv_num::read_dec;

@@ -1,10 +1,10 @@
 // A line outside of the sections.
 ghost use Rattle.std.specs.Prelude.{◌≡◌, option_map};
-ghost use Rattle.chv_defs.specs.ScenarioText.{top_word, early_word, late_disk, late_vcpu};
-ghost use Rattle.chv_defs.specs.ScenarioText as line;
+ghost use Rattle.chv_defs_scene.specs.ScenarioText.{top_word, early_word, late_disk, late_vcpu};
+ghost use Rattle.chv_defs_scene.specs.ScenarioText as line;
 
 use crate::fields::{at_space, has_space, is_number_in, is_word};
-use chv_defs::{Reason, is_name};
+use chv_defs_base::{Reason, is_name};
 
 /// How many sessions a scenario may have.
 const MOST_SESSIONS: usize = 16;

@@ -1,11 +1,12 @@
 // What was read of a scenario so far.
 ghost use Rattle.std.specs.Prelude.{◌≡◌, ◌+◌, ℕ, true, [], ◌∷◌, List, Some, None, IsSome, IsNone, IfOk, OnOk};
-ghost use Rattle.chv_defs.specs.ScenarioText.{Line, top_part};
+ghost use Rattle.chv_defs_scene.specs.ScenarioText.{Line, top_part};
 ghost use Rattle.chv_scene.specs.Reading.{resumed, with_asked, with_ended};
 
 use crate::outside::top_line;
 use crate::section::{Meaning, section_line};
-use chv_defs::{Asked, Reason, Row};
+use chv_defs_base::{Reason, Row};
+use chv_defs_scene::Asked;
 use std::alloc::{AllocError, Global};
 
 /// The sessions whose sections have ended, and the requests of the one whose section is open.

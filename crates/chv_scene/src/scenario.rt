@@ -1,12 +1,13 @@
 // Scenarios, read from their text.
 ghost use Rattle.std.specs.Prelude.{◌≡◌, ◌+◌, ◌^◌, ◌<◌, ◌≤◌, [], length, IfOk};
-ghost use Rattle.chv_defs.specs.ScenarioText.{read_scenario};
+ghost use Rattle.chv_defs_scene.specs.ScenarioText.{read_scenario};
 ghost use Rattle.chv_scene.specs.Answer.{answer_of};
 ghost use Rattle.chv_scene.specs.Reading.{resumed};
 
 use crate::lines::next_line;
 use crate::reading::Reading;
-use chv_defs::{Reason, Row, Scene};
+use chv_defs_base::{Reason, Row};
+use chv_defs_scene::Scene;
 use std::alloc::{AllocError, Global};
 
 /// The first line of a scenario that fails, counted from 1, and why. Where a section has no end, it is the line behind

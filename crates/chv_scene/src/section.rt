@@ -1,11 +1,12 @@
 // A line of a session's section.
 ghost use Rattle.std.specs.Prelude.{◌≡◌, IfOk, Some, None, option_map, if◌then◌else◌};
-ghost use Rattle.chv_defs.specs.ScenarioText.{is_route_name as is_name_of_route, section_word};
-ghost use Rattle.chv_defs.specs.ScenarioText as line;
+ghost use Rattle.chv_defs_scene.specs.ScenarioText.{is_route_name as is_name_of_route, section_word};
+ghost use Rattle.chv_defs_scene.specs.ScenarioText as line;
 ghost use Rattle.chv_scene.specs.Reading.{part_of};
 
 use crate::fields::{at_space, has_space, is_route_name, is_word};
-use chv_defs::{Asked, Bytes, Reason, Text};
+use chv_defs_base::{Bytes, Reason, Text};
+use chv_defs_scene::Asked;
 use chv_num::bytes_of_hex;
 use std::alloc::{AllocError, Global};
 use std::str::from_utf8;

@@ -1,7 +1,7 @@
 -- What is done to a desk where only calls are asked there.
 use Rattle.std.proofs.Common.{◌≡◌, List, [], ◌∷◌, ◌++◌, refl, subst}
-use Rattle.chv_defs.specs.declared.control.ControlCall.{ControlCall}
-use Rattle.chv_defs.specs.Desks.{AreAsked, IsOnlyAsked}
+use Rattle.chv_defs_api.specs.declared.control.ControlCall.{ControlCall}
+use Rattle.chv_defs_api.specs.Desks.{AreAsked, IsOnlyAsked}
 
 -- nothing was asked
 pub asked_none : {A : Type 0} (asks : A → ControlCall → A → Type 0) (before after : A) → after ≡ before → IsOnlyAsked asks before after

@@ -1,19 +1,19 @@
 -- What a session makes at its desk.
 use Rattle.std.proofs.Common.{◌≡◌, ℕ, Bool, true, false, List, [], ◌∷◌, ◌++◌, Option, Some, None, Result, Ok, Err, IfOk, OnErr, refl, sym, ap, subst, ◌∙◌, inl, inr, append_assoc, if◌then◌else◌}
 use Rattle.std.specs.Prelude.{MatchResult}
-use Rattle.chv_defs.specs.declared.rule.Rule.{Rule}
-use Rattle.chv_defs.specs.declared.rule.Rule.TheVariants.{NoRoute}
-use Rattle.chv_defs.specs.declared.request.Request.{Request}
-use Rattle.chv_defs.specs.declared.control.ControlCall.{ControlCall}
-use Rattle.chv_defs.specs.declared.control.ControlCall.TheVariants as call
-use Rattle.chv_defs.specs.declared.control.ControlReply.{ControlReply}
-use Rattle.chv_defs.specs.declared.control.ControlReply.TheVariants as reply
-use Rattle.chv_defs.specs.declared.session.SessionEnd.{SessionEnd}
-use Rattle.chv_defs.specs.declared.session.SessionEnd.TheVariants as end
-use Rattle.chv_defs.specs.Desks.{Answer, is_held, is_holding, can_have, is_session_call}
-use Rattle.chv_defs.specs.JsonBodies.{◌>>=◌}
-use Rattle.chv_defs.specs.Routes.{call_of_request, call_named, get_call, put_call, reply_to_call, route_name}
-use Rattle.chv_defs.specs.SessionBytes.{Makes, AnsweredBy}
+use Rattle.chv_defs_base.specs.declared.rule.Rule.{Rule}
+use Rattle.chv_defs_base.specs.declared.rule.Rule.TheVariants.{NoRoute}
+use Rattle.chv_defs_api.specs.declared.request.Request.{Request}
+use Rattle.chv_defs_api.specs.declared.control.ControlCall.{ControlCall}
+use Rattle.chv_defs_api.specs.declared.control.ControlCall.TheVariants as call
+use Rattle.chv_defs_api.specs.declared.control.ControlReply.{ControlReply}
+use Rattle.chv_defs_api.specs.declared.control.ControlReply.TheVariants as reply
+use Rattle.chv_defs_api.specs.declared.session.SessionEnd.{SessionEnd}
+use Rattle.chv_defs_api.specs.declared.session.SessionEnd.TheVariants as end
+use Rattle.chv_defs_api.specs.Desks.{Answer, is_held, is_holding, can_have, is_session_call}
+use Rattle.chv_defs_api.specs.JsonBodies.{◌>>=◌}
+use Rattle.chv_defs_api.specs.Routes.{call_of_request, call_named, get_call, put_call, reply_to_call, route_name}
+use Rattle.chv_defs_api.specs.SessionBytes.{Makes, AnsweredBy}
 use Rattle.chv_session.specs.declared.respond.Then.TheVariants as then_is
 use Rattle.chv_session.specs.declared.respond.Response.{Response}
 use Rattle.chv_session.specs.declared.respond.Made.{Made}

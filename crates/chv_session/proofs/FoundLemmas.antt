@@ -1,10 +1,10 @@
 -- What is in front of the bytes at hand.
 use Rattle.std.proofs.Common.{◌≡◌, ◌<◌, ℕ, List, ◌++◌, length, sym, subst, ◌∙◌, Option}
-use Rattle.chv_defs.specs.declared.rule.Rule.{Rule}
-use Rattle.chv_defs.specs.declared.request.Took.{Took}
-use Rattle.chv_defs.specs.declared.request.Took.TheVariants as took
-use Rattle.chv_defs.specs.Requests.{Cuts, IsShort}
-use Rattle.chv_defs.specs.SessionBytes.{IsBad, session_limit}
+use Rattle.chv_defs_base.specs.declared.rule.Rule.{Rule}
+use Rattle.chv_defs_api.specs.declared.request.Took.{Took}
+use Rattle.chv_defs_api.specs.declared.request.Took.TheVariants as took
+use Rattle.chv_defs_api.specs.Requests.{Cuts, IsShort}
+use Rattle.chv_defs_api.specs.SessionBytes.{IsBad, session_limit}
 use Rattle.chv_session.specs.declared.fill.Found.TheVariants as found
 use Rattle.chv_session.specs.Taking.{HasFed, IsSame, TakesPieces}
 use Rattle.chv_session.proofs.TakingLemmas.{fed_join, takes_join}

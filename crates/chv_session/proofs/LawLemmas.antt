@@ -2,18 +2,18 @@
 use Rattle.std.proofs.Common.{◌≡◌, ◌||◌, Bool, true, false, ℕ, List, [], ◌∷◌, ◌++◌, take, Option, Some, None, Result, Ok, Err, refl, sym, ap, subst, ◌∙◌, inl, inr, append_assoc}
 use Rattle.std.proofs.lemmas.List.{append-nil}
 use Rattle.std.proofs.Math.Seq.{take-nil}
-use Rattle.chv_defs.specs.declared.request.Request.{Request}
-use Rattle.chv_defs.specs.declared.control.ControlCall.TheVariants as call
-use Rattle.chv_defs.specs.declared.session.SessionEnd.{SessionEnd}
-use Rattle.chv_defs.specs.declared.session.SessionEnd.TheVariants as end
-use Rattle.chv_defs.specs.Desks.{Answer}
-use Rattle.chv_defs.specs.Outside.{Gains, GainsPart}
-use Rattle.chv_defs.specs.Requests.{BeginsWith}
+use Rattle.chv_defs_api.specs.declared.request.Request.{Request}
+use Rattle.chv_defs_api.specs.declared.control.ControlCall.TheVariants as call
+use Rattle.chv_defs_api.specs.declared.session.SessionEnd.{SessionEnd}
+use Rattle.chv_defs_api.specs.declared.session.SessionEnd.TheVariants as end
+use Rattle.chv_defs_api.specs.Desks.{Answer}
+use Rattle.chv_io.specs.Outside.{Gains, GainsPart}
+use Rattle.chv_defs_api.specs.Requests.{BeginsWith}
 use Rattle.std.specs.List.{AllByRecursion}
-use Rattle.chv_defs.specs.declared.rule.Rule.{Rule}
-use Rattle.chv_defs.specs.declared.control.ControlCall.{ControlCall}
-use Rattle.chv_defs.specs.Routes.{call_of_request}
-use Rattle.chv_defs.specs.SessionBytes.{Answered, AnsweredBy, AreAnswered, Holds, has_last, IsOpen, EndsAs, StopsAs, IsSessionLog}
+use Rattle.chv_defs_base.specs.declared.rule.Rule.{Rule}
+use Rattle.chv_defs_api.specs.declared.control.ControlCall.{ControlCall}
+use Rattle.chv_defs_api.specs.Routes.{call_of_request}
+use Rattle.chv_defs_api.specs.SessionBytes.{Answered, AnsweredBy, AreAnswered, Holds, has_last, IsOpen, EndsAs, StopsAs, IsSessionLog}
 use Rattle.chv_http.proofs.CutLemmas.{cuts_into_append, cuts_into_join}
 use Rattle.chv_session.specs.declared.next.Next.TheVariants as next
 use Rattle.chv_session.specs.declared.state.State.{State}

@@ -1,6 +1,6 @@
 -- What several calls leave of a connection.
 use Rattle.std.proofs.Common.{ℕ, List, Bool, Option, ◌∙◌, arith}
-use Rattle.chv_defs.specs.Links.{ReadLeaves}
+use Rattle.chv_io.specs.Links.{ReadLeaves}
 
 pub read_leaves_join : (a b c : Option (List ℕ)) (x y z : Bool) (i j k : ℕ) → ReadLeaves a b x y i j → ReadLeaves b c y z j k
     → ReadLeaves a c x z i k

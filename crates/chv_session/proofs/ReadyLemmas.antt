@@ -2,12 +2,12 @@
 use Rattle.std.proofs.Common.{◌≡◌, Bool, false, ℕ, List, [], ◌∷◌, ◌++◌, Option, Result, Ok, Err, IfOk, inl, inr, sym, ap, subst, ◌∙◌, append_assoc}
 use Rattle.std.proofs.lemmas.List.{append-nil}
 use Rattle.std.specs.Prelude.{MatchResult}
-use Rattle.chv_defs.specs.declared.rule.Rule.{Rule}
-use Rattle.chv_defs.specs.declared.control.ControlCall.{ControlCall}
-use Rattle.chv_defs.specs.declared.control.ControlReply.TheVariants as reply
-use Rattle.chv_defs.specs.Desks.{Answer, is_held}
-use Rattle.chv_defs.specs.Routes.{call_of_request}
-use Rattle.chv_defs.specs.SessionBytes.{AnsweredBy}
+use Rattle.chv_defs_base.specs.declared.rule.Rule.{Rule}
+use Rattle.chv_defs_api.specs.declared.control.ControlCall.{ControlCall}
+use Rattle.chv_defs_api.specs.declared.control.ControlReply.TheVariants as reply
+use Rattle.chv_defs_api.specs.Desks.{Answer, is_held}
+use Rattle.chv_defs_api.specs.Routes.{call_of_request}
+use Rattle.chv_defs_api.specs.SessionBytes.{AnsweredBy}
 use Rattle.chv_session.specs.declared.next.Next.{Next}
 use Rattle.chv_session.specs.declared.next.Next.TheVariants as next
 use Rattle.chv_session.specs.declared.state.State.{State}

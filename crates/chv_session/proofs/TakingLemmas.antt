@@ -4,10 +4,10 @@ use Rattle.std.specs.List.{concat}
 use Rattle.std.proofs.lemmas.List.{append-nil, append_cancel_left, length-take-le, take-append-drop, drop-drop}
 use Rattle.std.proofs.Math.Seq.{drop-append_seam}
 use Rattle.std.proofs.lemmas.List.Folds.{concat-append}
-use Rattle.chv_defs.specs.Outside.{Takes, Gains, Loses}
-use Rattle.chv_defs.specs.Links.{Gives, Fills, GivesMost}
-use Rattle.chv_defs.specs.Requests.{IsShort}
-use Rattle.chv_defs.specs.SessionBytes.{AreTaken, AreGiven, asks_for}
+use Rattle.chv_io.specs.Outside.{Takes, Gains, Loses}
+use Rattle.chv_io.specs.Links.{Gives, Fills, GivesMost}
+use Rattle.chv_defs_api.specs.Requests.{IsShort}
+use Rattle.chv_defs_api.specs.SessionBytes.{AreTaken, AreGiven, asks_for}
 use Rattle.chv_io.specs.declared.failed.Failed.{Failed}
 use Rattle.chv_session.specs.Taking.{AreGivenWhereTold, TakesPieces, HasFed}
 

@@ -1,8 +1,8 @@
 -- What a session finds in front of the bytes at hand, after it took as many as it needs.
 use Rattle.std.specs.Prelude.{◌≡◌, ◌<◌, ℕ, List, [], ◌++◌, length, Option, IfSome, ⊤}
-use Rattle.chv_defs.specs.Outside.{Rose}
-use Rattle.chv_defs.specs.Requests.{BeginsWith, IsShort}
-use Rattle.chv_defs.specs.SessionBytes.{IsBad, session_limit}
+use Rattle.chv_io.specs.Outside.{Rose}
+use Rattle.chv_defs_api.specs.Requests.{BeginsWith, IsShort}
+use Rattle.chv_defs_api.specs.SessionBytes.{IsBad, session_limit}
 use Rattle.chv_session.specs.declared.fill.Found.{Found}
 use Rattle.chv_session.specs.declared.fill.Found.TheVariants as found
 

@@ -1,15 +1,15 @@
 -- Whole sessions: turns that follow one another, and what they come to.
 use Rattle.std.specs.Prelude.{◌≡◌, ◌⊎◌, ℕ, true, false, List, [], ◌∷◌, ◌++◌, Option}
 use Rattle.std.specs.List.{AllByRecursion}
-use Rattle.chv_defs.specs.declared.rule.Rule.{Rule}
-use Rattle.chv_defs.specs.declared.request.Request.{Request}
-use Rattle.chv_defs.specs.declared.session.SessionEnd.{SessionEnd}
-use Rattle.chv_defs.specs.declared.session.SessionEnd.TheVariants as end
-use Rattle.chv_defs.specs.Desks.{Answer}
-use Rattle.chv_defs.specs.Outside.{Gains, GainsPart}
-use Rattle.chv_defs.specs.Requests.{BeginsWith}
-use Rattle.chv_defs.specs.Routes.{refusal_bytes}
-use Rattle.chv_defs.specs.SessionBytes.{Answered, IsBad, IsOpen, IsSessionLog}
+use Rattle.chv_defs_base.specs.declared.rule.Rule.{Rule}
+use Rattle.chv_defs_api.specs.declared.request.Request.{Request}
+use Rattle.chv_defs_api.specs.declared.session.SessionEnd.{SessionEnd}
+use Rattle.chv_defs_api.specs.declared.session.SessionEnd.TheVariants as end
+use Rattle.chv_defs_api.specs.Desks.{Answer}
+use Rattle.chv_io.specs.Outside.{Gains, GainsPart}
+use Rattle.chv_defs_api.specs.Requests.{BeginsWith}
+use Rattle.chv_defs_api.specs.Routes.{refusal_bytes}
+use Rattle.chv_defs_api.specs.SessionBytes.{Answered, IsBad, IsOpen, IsSessionLog}
 use Rattle.chv_session.specs.declared.next.Next.TheVariants as next
 use Rattle.chv_session.specs.Talk.{new_talk}
 use Rattle.chv_session.specs.Moment.{Moment}

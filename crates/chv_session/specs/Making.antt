@@ -1,10 +1,10 @@
 -- What is made of one call of a request: its Settle, where it is answered Holding, and the reply.
 use Rattle.std.specs.Prelude.{◌≡◌, ◌⊎◌, ℕ, Bool, true, false, List, [], ◌∷◌, ◌++◌, Option, None, Some, Result, Ok, Err}
-use Rattle.chv_defs.specs.declared.control.ControlCall.{ControlCall}
-use Rattle.chv_defs.specs.declared.control.ControlCall.TheVariants as call
-use Rattle.chv_defs.specs.declared.control.ControlReply.{ControlReply}
-use Rattle.chv_defs.specs.Desks.{Answer, is_holding}
-use Rattle.chv_defs.specs.SessionBytes.{Makes, Holds, AnsweredBy}
+use Rattle.chv_defs_api.specs.declared.control.ControlCall.{ControlCall}
+use Rattle.chv_defs_api.specs.declared.control.ControlCall.TheVariants as call
+use Rattle.chv_defs_api.specs.declared.control.ControlReply.{ControlReply}
+use Rattle.chv_defs_api.specs.Desks.{Answer, is_holding}
+use Rattle.chv_defs_api.specs.SessionBytes.{Makes, Holds, AnsweredBy}
 use Rattle.chv_session.specs.declared.respond.Made.{Made}
 use Rattle.chv_session.specs.declared.respond.Response.{Response}
 use Rattle.chv_session.specs.declared.respond.Then.TheVariants as then_is

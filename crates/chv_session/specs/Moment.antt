@@ -1,7 +1,7 @@
 -- What the caller of `next` sees of a session and of what it works at.
 use Rattle.std.specs.Prelude.{ℕ, List, Option}
-use Rattle.chv_defs.specs.declared.control.ControlCall.{ControlCall}
-use Rattle.chv_defs.specs.Desks.{Answer}
+use Rattle.chv_defs_api.specs.declared.control.ControlCall.{ControlCall}
+use Rattle.chv_defs_api.specs.Desks.{Answer}
 use Rattle.chv_session.specs.Talk.{Talk}
 
 -- A session; the calls that its caller has made, and the last one that was answered Stopped, where one was; what was put

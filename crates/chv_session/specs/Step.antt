@@ -1,16 +1,16 @@
 -- What one call of `next` brings about.
 use Rattle.std.specs.Prelude.{◌≡◌, ◌≢◌, ◌<◌, ◌⊎◌, ⊤, ℕ, Bool, true, false, List, [], ◌∷◌, ◌++◌, length, Option, Some}
-use Rattle.chv_defs.specs.declared.rule.Rule.{Rule}
-use Rattle.chv_defs.specs.declared.request.Request.{Request}
-use Rattle.chv_defs.specs.declared.control.ControlCall.{ControlCall}
-use Rattle.chv_defs.specs.declared.control.ControlCall.TheVariants as call
-use Rattle.chv_defs.specs.declared.session.SessionEnd.{SessionEnd}
-use Rattle.chv_defs.specs.declared.session.SessionEnd.TheVariants as end
-use Rattle.chv_defs.specs.Desks.{Answer, is_held}
-use Rattle.chv_defs.specs.Outside.{Rose, Gains, GainsPart}
-use Rattle.chv_defs.specs.Requests.{BeginsWith, IsShort}
-use Rattle.chv_defs.specs.Routes.{refusal_bytes}
-use Rattle.chv_defs.specs.SessionBytes.{Answered, IsBad, session_limit}
+use Rattle.chv_defs_base.specs.declared.rule.Rule.{Rule}
+use Rattle.chv_defs_api.specs.declared.request.Request.{Request}
+use Rattle.chv_defs_api.specs.declared.control.ControlCall.{ControlCall}
+use Rattle.chv_defs_api.specs.declared.control.ControlCall.TheVariants as call
+use Rattle.chv_defs_api.specs.declared.session.SessionEnd.{SessionEnd}
+use Rattle.chv_defs_api.specs.declared.session.SessionEnd.TheVariants as end
+use Rattle.chv_defs_api.specs.Desks.{Answer, is_held}
+use Rattle.chv_io.specs.Outside.{Rose, Gains, GainsPart}
+use Rattle.chv_defs_api.specs.Requests.{BeginsWith, IsShort}
+use Rattle.chv_defs_api.specs.Routes.{refusal_bytes}
+use Rattle.chv_defs_api.specs.SessionBytes.{Answered, IsBad, session_limit}
 use Rattle.chv_session.specs.declared.next.Next.{Next}
 use Rattle.chv_session.specs.declared.next.Next.TheVariants as next
 use Rattle.chv_session.specs.declared.state.State.{State}

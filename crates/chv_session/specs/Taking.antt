@@ -1,8 +1,8 @@
 -- What a session takes of its connection.
 use Rattle.std.specs.Prelude.{◌≡◌, ℕ, List, ◌++◌, length, Option, None, Some, ⊤}
 use Rattle.std.specs.List.{concat}
-use Rattle.chv_defs.specs.Outside.{Gains, Loses}
-use Rattle.chv_defs.specs.SessionBytes.{AreTaken, AreGiven}
+use Rattle.chv_io.specs.Outside.{Gains, Loses}
+use Rattle.chv_defs_api.specs.SessionBytes.{AreTaken, AreGiven}
 
 -- The pieces are those that the connection gives, where it tells what it has left and the most that one read gives.
 abbrev pub AreGivenWhereTold : Option ℕ → Option (List ℕ) → ℕ → List (List ℕ) → Type 0

@@ -1,9 +1,9 @@
 -- What a session does to its connection besides taking and putting.
 use Rattle.std.specs.Prelude.{◌≡◌, ◌<◌, ◌⊎◌, ℕ, Bool, true, List, [], ◌++◌, length, Option, IfSome}
-use Rattle.chv_defs.specs.declared.session.SessionEnd.TheVariants as end
-use Rattle.chv_defs.specs.Outside.{Rose}
-use Rattle.chv_defs.specs.Requests.{IsShort}
-use Rattle.chv_defs.specs.SessionBytes.{session_limit}
+use Rattle.chv_defs_api.specs.declared.session.SessionEnd.TheVariants as end
+use Rattle.chv_io.specs.Outside.{Rose}
+use Rattle.chv_defs_api.specs.Requests.{IsShort}
+use Rattle.chv_defs_api.specs.SessionBytes.{session_limit}
 use Rattle.chv_session.specs.declared.next.Next.{Next}
 use Rattle.chv_session.specs.declared.next.Next.TheVariants as next
 

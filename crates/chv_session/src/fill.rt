@@ -1,13 +1,14 @@
 // Takes from a connection until something is at hand.
 ghost use Rattle.std.specs.Prelude.{◌≡◌, ◌<◌, ◌≤◌, ◌+◌, [], ◌++◌, length, vec_len, vec_capacity, IfOk, IfSome, OnErr};
-ghost use Rattle.chv_defs.specs.Outside.{Rose};
-ghost use Rattle.chv_defs.specs.Links.{ReadLeaves};
-ghost use Rattle.chv_defs.specs.Requests.{IsShort};
-ghost use Rattle.chv_defs.specs.SessionBytes.{session_limit, asks_for};
+ghost use Rattle.chv_io.specs.Outside.{Rose};
+ghost use Rattle.chv_io.specs.Links.{ReadLeaves};
+ghost use Rattle.chv_defs_api.specs.Requests.{IsShort};
+ghost use Rattle.chv_defs_api.specs.SessionBytes.{session_limit, asks_for};
 ghost use Rattle.chv_session.specs.Taking.{TakesPieces, HasFed, IsSame};
 ghost use Rattle.chv_session.specs.Found.{Finds, IsDrained, IsCaused};
 
-use chv_defs::{Request, Rule, Took};
+use chv_defs_api::{Request, Took};
+use chv_defs_base::Rule;
 use chv_http::Parser;
 use chv_io::{Failed, Link, read_from};
 use std::alloc::AllocError;

@@ -1,5 +1,5 @@
 // What one step of a session came to.
-use chv_defs::SessionEnd;
+use chv_defs_api::SessionEnd;
 
 /// What one step of a session came to.
 #[derive(Clone, Copy, PartialEq, Eq)]

@@ -1,17 +1,18 @@
 // Makes the control calls of what was found, and the reply to it. Calls and replies are given to `drop`, so that a proof has
 // one call in place of a case for each kind of call and reply.
 ghost use Rattle.std.specs.Prelude.{◌≡◌, true, Some, None, IfOk, OnErr};
-ghost use Rattle.chv_defs.specs.Machine.{IsSession};
-ghost use Rattle.chv_defs.specs.declared.control.ControlCall.TheVariants.{Settle};
-ghost use Rattle.chv_defs.specs.declared.control.ControlReply.TheVariants.{Holding};
-ghost use Rattle.chv_defs.specs.Desks.{IsOnlyAsked, is_session_call, is_held, is_holding};
-ghost use Rattle.chv_defs.specs.Routes.{reply_to_call};
+ghost use Rattle.chv_defs_api.specs.Desks.{IsSession};
+ghost use Rattle.chv_defs_api.specs.declared.control.ControlCall.TheVariants.{Settle};
+ghost use Rattle.chv_defs_api.specs.declared.control.ControlReply.TheVariants.{Holding};
+ghost use Rattle.chv_defs_api.specs.Desks.{IsOnlyAsked, is_session_call, is_held, is_holding};
+ghost use Rattle.chv_defs_api.specs.Routes.{reply_to_call};
 ghost use Rattle.chv_session.specs.Response.{Serves, Responds, BreaksIn, BreaksOn, then_after, HasMadeAlso};
 ghost use Rattle.chv_session.specs.Making.{Settles, IsAnswer, MakesCall, ServesCall, last_call};
 
 use crate::fill::Found;
 use chv_api::{calls_of, refusal_of, reply_of};
-use chv_defs::{Bytes, ControlCall, ControlReply, Desk, Request, SessionEnd, Stopped};
+use chv_defs_api::{ControlCall, ControlReply, Desk, Request, SessionEnd, Stopped};
+use chv_defs_base::Bytes;
 use std::alloc::{AllocError, Global};
 
 /// What comes behind a reply.

@@ -1,8 +1,8 @@
 // Puts a reply, and ends a session.
 ghost use Rattle.std.specs.Prelude.{◌≡◌, ◌≢◌, ◌≤◌, true, None, IfOk, MatchResult, OnErr};
-ghost use Rattle.chv_defs.specs.Machine.{IsSession};
-ghost use Rattle.chv_defs.specs.Desks.{IsOnlyAsked};
-ghost use Rattle.chv_defs.specs.Links.{WriteLeaves};
+ghost use Rattle.chv_defs_api.specs.Desks.{IsSession};
+ghost use Rattle.chv_defs_api.specs.Desks.{IsOnlyAsked};
+ghost use Rattle.chv_io.specs.Links.{WriteLeaves};
 ghost use Rattle.chv_session.specs.Response.{Sends, Finishes, IsEnd};
 ghost use Rattle.chv_session.specs.Step.{said_at};
 ghost use Rattle.chv_session.specs.Wire.{Closes, StaysButClosed};
@@ -10,7 +10,7 @@ ghost use Rattle.chv_session.specs.Wire.{Closes, StaysButClosed};
 use crate::fill::keep;
 use crate::respond::{Response, Then};
 use crate::state::State;
-use chv_defs::{ControlCall, Desk, SessionEnd, Stopped};
+use chv_defs_api::{ControlCall, Desk, SessionEnd, Stopped};
 use chv_io::{Failed, Link, write_to};
 use std::alloc::AllocError;
 

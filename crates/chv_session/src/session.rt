@@ -1,8 +1,8 @@
 // The session of one connection.
 ghost use Rattle.std.specs.Prelude.{◌≡◌, ◌≢◌, ◌≤◌, true, false, vec_len, IfOk, MatchResult, OnErr, Ok, Err};
-ghost use Rattle.chv_defs.specs.Machine.{IsSession};
-ghost use Rattle.chv_defs.specs.Desks.{IsOnlyAsked, is_held};
-ghost use Rattle.chv_defs.specs.SessionBytes.{session_limit};
+ghost use Rattle.chv_defs_api.specs.Desks.{IsSession};
+ghost use Rattle.chv_defs_api.specs.Desks.{IsOnlyAsked, is_held};
+ghost use Rattle.chv_defs_api.specs.SessionBytes.{session_limit};
 ghost use Rattle.chv_session.specs.Talk.{new_talk, end_of};
 ghost use Rattle.chv_session.specs.Taking.{TakesPieces};
 ghost use Rattle.chv_session.specs.Moment.{moment, faults};
@@ -14,7 +14,8 @@ use crate::next::Next;
 use crate::respond::respond;
 use crate::send::{finish, leave, send};
 use crate::state::State;
-use chv_defs::{Bytes, Desk, SessionEnd, SessionLog};
+use chv_defs_api::{Desk, SessionEnd, SessionLog};
+use chv_defs_base::Bytes;
 use chv_http::Parser;
 use chv_io::Link;
 use std::alloc::{AllocError, Global};
@@ -80,7 +81,7 @@ pub struct Session {
 
 impl Model for Session {
     ghost use Rattle.std.specs.Prelude.{◌≤◌, vec_len};
-    ghost use Rattle.chv_defs.specs.SessionBytes.{session_limit};
+    ghost use Rattle.chv_defs_api.specs.SessionBytes.{session_limit};
     ghost use Rattle.chv_session.specs.Talk.{Talk};
 
     ghost Value = { Talk };

@@ -1,5 +1,5 @@
 // Where a session stands.
-use chv_defs::SessionEnd;
+use chv_defs_api::SessionEnd;
 
 /// Where a session stands, as contracts see it.
 #[derive(Clone, Copy)]

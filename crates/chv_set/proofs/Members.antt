@@ -3,8 +3,8 @@ use Rattle.std.proofs.Common.{◌≡◌, ℕ, ◌+◌, ◌-◌, ◌<◌, ◌≤�
 use Rattle.std.specs.Prelude.{filter, find, cond, MatchOption}
 use Rattle.std.proofs.lemmas.Bool.{cases_order}
 use Rattle.std.proofs.lemmas.Bool.Decides.{nat_tests}
-use Rattle.chv_defs.specs.declared.bank.Span.{Span}
-use Rattle.chv_defs.specs.BlockSets.{has, members_from, first_within, is_within}
+use Rattle.chv_defs_memory.specs.declared.bank.Span.{Span}
+use Rattle.chv_defs_memory.specs.BlockSets.{has, members_from, first_within, is_within}
 
 -- as many as there are true values
 pub count_of-from : (k : ℕ) (bs : List Bool) → length (members_from k bs) ≡ length (filter (λ b. b) bs)

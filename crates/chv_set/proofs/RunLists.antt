@@ -6,8 +6,8 @@ use Rattle.std.specs.Option.{option_map_or}
 use Rattle.std.proofs.lemmas.Bool.Decides.{nat_tests}
 use Rattle.std.proofs.lemmas.Bool.{cases_order}
 use Rattle.std.proofs.lemmas.List.{take_more, length-take, append-nil}
-use Rattle.chv_defs.specs.declared.bank.Span.{Span}
-use Rattle.chv_defs.specs.BlockSets.{has, members_from, members, runs_of, onto_runs, ranges_of, is_within, AreApart}
+use Rattle.chv_defs_memory.specs.declared.bank.Span.{Span}
+use Rattle.chv_defs_memory.specs.BlockSets.{has, members_from, members, runs_of, onto_runs, ranges_of, is_within, AreApart}
 use Rattle.chv_set.specs.Runs.{touches_end, longer, onto_end}
 use Rattle.chv_set.proofs.Members.{members_from-snoc}
 

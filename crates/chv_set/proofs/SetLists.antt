@@ -5,8 +5,8 @@ use Rattle.std.proofs.lemmas.List.{ext_get_or, get_or-replicate, length-replicat
 use Rattle.std.proofs.lemmas.List.FromFn.{get_or-map-range_with_len, length-map-range_with_len}
 use Rattle.std.proofs.lemmas.Bool.{cases_lt}
 use Rattle.std.proofs.lemmas.Bool.Decides.{nat_tests}
-use Rattle.chv_defs.specs.declared.bank.Span.{Span}
-use Rattle.chv_defs.specs.BlockSets.{has, numbers_where, is_within, no_blocks, with_span, without_span}
+use Rattle.chv_defs_memory.specs.declared.bank.Span.{Span}
+use Rattle.chv_defs_memory.specs.BlockSets.{has, numbers_where, is_within, no_blocks, with_span, without_span}
 
 -- a set is given by which numbers it has
 pub numbers_where-is : (size : ℕ) (p : ℕ → Bool) (set : List Bool) → length set ≡ size → ((k : ℕ) → k < size → has set k ≡ p k) → set ≡ numbers_where size p

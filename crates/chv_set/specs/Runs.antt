@@ -1,6 +1,6 @@
 -- Runs of ascending numbers, made from the front.
 use Rattle.std.specs.Prelude.{ℕ, ◌+◌, ◌==◌, Bool, false, if◌then◌else◌, List, [], ◌∷◌, ◌++◌}
-use Rattle.chv_defs.specs.declared.bank.Span.{Span}
+use Rattle.chv_defs_memory.specs.declared.bank.Span.{Span}
 
 -- whether the last run ends right before the number
 abbrev pub touches_end : List Span → ℕ → Bool

@@ -1,9 +1,10 @@
 // A set of numbers below its size.
 ghost use Rattle.std.specs.Prelude.{◌≡◌, ℕ, ◌+◌, ◌≤◌, ◌<◌, ◌^◌, IfOk, length, filter};
-ghost use Rattle.chv_defs.specs.BlockSets.{AreRuns, count_of, first_within, has, no_blocks, ranges_of, with_span, without_span};
+ghost use Rattle.chv_defs_memory.specs.BlockSets.{AreRuns, count_of, first_within, has, no_blocks, ranges_of, with_span, without_span};
 
 use crate::runs::runs_in;
-use chv_defs::{Row, Span};
+use chv_defs_base::Row;
+use chv_defs_memory::Span;
 use std::alloc::{AllocError, Global};
 use std::marker::Model;
 

@@ -1,5 +1,5 @@
 // Laws of the definitions.
-ghost use Rattle.chv_defs.specs.BlockSets.{AreRuns, ranges_of};
+ghost use Rattle.chv_defs_memory.specs.BlockSets.{AreRuns, ranges_of};
 
 use crate::BlockSet;
 

@@ -1,9 +1,9 @@
 // Runs of blocks, made from one end to the other.
 ghost use Rattle.std.specs.Prelude.{◌≡◌, ◌-◌, ◌^◌, ◌<◌, IfOk, OnOk, OnErr, length};
-ghost use Rattle.chv_defs.specs.BlockSets.{ranges_of};
+ghost use Rattle.chv_defs_memory.specs.BlockSets.{ranges_of};
 ghost use Rattle.chv_set.specs.Runs.{onto_end, touches_end};
 
-use chv_defs::Span;
+use chv_defs_memory::Span;
 use std::alloc::{AllocError, Global};
 
 /// The maximal runs of a set, ascending.

@@ -1,6 +1,6 @@
 -- A disk in memory, and what its calls do to it.
 use Rattle.std.specs.Prelude.{ℕ, List, replicate, slice_set, if◌then◌else◌}
-use Rattle.chv_defs.specs.FailingCalls.{Calls, no_calls, is_listed, after_call}
+use Rattle.chv_io.specs.FailingCalls.{Calls, no_calls, is_listed, after_call}
 
 -- The sectors of a disk in memory, each the list of its bytes, and its calls.
 pub record Platter : Type 0 where

@@ -1,11 +1,11 @@
 // A disk in memory.
 ghost use Rattle.std.specs.Prelude.{◌≡◌, ◌<◌, length, replicate, IfOk};
-ghost use Rattle.chv_defs.specs.Outside.{HasCause};
-ghost use Rattle.chv_defs.specs.Disks.{IsWhole, GivesSector, WritesSector};
-ghost use Rattle.chv_defs.specs.FailingCalls.{FailsAsListed};
+ghost use Rattle.chv_io.specs.Outside.{HasCause};
+ghost use Rattle.chv_io.specs.Disks.{IsWhole, GivesSector, WritesSector};
+ghost use Rattle.chv_io.specs.FailingCalls.{FailsAsListed};
 ghost use Rattle.chv_store.specs.MemDisk.{blank_disk, after_look, after_write};
 
-use chv_defs::Row;
+use chv_defs_base::Row;
 use chv_io::{Calls, Disk, Failed};
 use std::alloc::{AllocError, Global};
 use std::marker::Model;

@@ -1,7 +1,7 @@
 -- What a run says that writes the line of the words, where they are none of the program's.
 use Rattle.std.specs.Prelude.{IsTrue}
 use Rattle.std.proofs.Common.{◌≡◌, ◌⊎◌, ℕ, Bool, true, false, List, Option, sym, ◌∙◌, ap, subst, ⊎_elim, inl, inr}
-use Rattle.chv_defs.specs.Outside.{Rose, Gains, GainsPart}
+use Rattle.chv_io.specs.Outside.{Rose, Gains, GainsPart}
 use Rattle.chv_top.specs.Says.{Writes}
 use Rattle.chv_top.specs.declared.status.Status.{Status}
 use Rattle.chv_top.specs.declared.status.Status.TheVariants as status

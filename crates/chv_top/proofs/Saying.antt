@@ -4,14 +4,14 @@ use Rattle.std.specs.Prelude.{IfErr, MatchResult}
 use Rattle.std.proofs.lemmas.List.{append-nil}
 use Rattle.std.proofs.lemmas.Bool.{le-ltb, lt-ltb}
 use Rattle.std.proofs.Math.Seq.{take-length}
-use Rattle.chv_defs.specs.declared.bank.Full.{Full}
-use Rattle.chv_defs.specs.declared.scene.OnShelf.{OnShelf}
-use Rattle.chv_defs.specs.declared.scene.Scene.{Scene}
+use Rattle.chv_defs_base.specs.declared.book.Full.{Full}
+use Rattle.chv_defs_api.specs.declared.shelf.OnShelf.{OnShelf}
+use Rattle.chv_defs_scene.specs.declared.scene.Scene.{Scene}
 use Rattle.chv_defs.specs.declared.trace.Trace.{Trace}
-use Rattle.chv_defs.specs.declared.context.StopCause.{StopCause}
-use Rattle.chv_defs.specs.Outside.{Gains, GainsPart}
+use Rattle.chv_defs_api.specs.declared.context.StopCause.{StopCause}
+use Rattle.chv_io.specs.Outside.{Gains, GainsPart}
 use Rattle.chv_defs.specs.ProgramText.{full_line, read_fault_line, scene_fault_line, too_long_line}
-use Rattle.chv_defs.specs.ScenarioText.{Fault, Sessions, read_scenario}
+use Rattle.chv_defs_scene.specs.ScenarioText.{Fault, Sessions, read_scenario}
 use Rattle.chv_defs.specs.Schedule.{Stage, schedule, trace_at, trace_of}
 use Rattle.chv_defs.specs.TraceText.{trace_text}
 use Rattle.chv_play.specs.Played.{Comes}

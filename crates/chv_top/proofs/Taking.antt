@@ -2,7 +2,7 @@
 use Rattle.std.proofs.Common.{◌≡◌, ◌≤◌, ◌+◌, ◌++◌, ℕ, List, length, Option, None, Some, sym, ◌∙◌, ap, subst}
 use native.Mathlib.Omega.{arith}
 use Rattle.std.proofs.lemmas.List.{append_assoc, length-append}
-use Rattle.chv_defs.specs.Outside.{Loses}
+use Rattle.chv_io.specs.Outside.{Loses}
 use Rattle.chv_top.specs.Outcome.{TakesAtMost}
 
 -- what is taken in two goes is taken in all

@@ -1,6 +1,6 @@
 -- Lines from their parts.
 use Rattle.std.proofs.Common.{◌≡◌, ℕ, List, ◌∷◌, ◌++◌, codes, Result, Ok, Err, IfOk, sym, ◌∙◌, ap, append_assoc}
-use Rattle.chv_defs.specs.ScriptText.{field}
+use Rattle.chv_defs_scene.specs.ScriptText.{field}
 
 -- what is printed is the same text
 pub printed_same : {S E : Type 0} (bytes : S → List ℕ) (r : Result S E) (a b : List ℕ) → IfOk r (λ s. bytes s ≡ a) → a ≡ b → IfOk r (λ s. bytes s ≡ b)

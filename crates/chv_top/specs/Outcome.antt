@@ -1,12 +1,12 @@
 -- What each status of the program says of a run.
 use Rattle.std.specs.Prelude.{◌≡◌, ◌≤◌, ◌<◌, ◌⊎◌, ℕ, nat_lt, if◌then◌else◌, length, List, [], Option, IfSome, Result, Ok, Err}
-use Rattle.chv_defs.specs.declared.bank.Full.{Full}
-use Rattle.chv_defs.specs.declared.rule.Reason.{Reason}
-use Rattle.chv_defs.specs.declared.scene.OnShelf.{OnShelf}
+use Rattle.chv_defs_base.specs.declared.book.Full.{Full}
+use Rattle.chv_defs_base.specs.declared.rule.Reason.{Reason}
+use Rattle.chv_defs_api.specs.declared.shelf.OnShelf.{OnShelf}
 use Rattle.chv_defs.specs.declared.trace.Trace.{Trace}
-use Rattle.chv_defs.specs.Outside.{Rose, Loses, Gains, GainsPart}
+use Rattle.chv_io.specs.Outside.{Rose, Loses, Gains, GainsPart}
 use Rattle.chv_defs.specs.ProgramText.{full_line, read_fault_line, scene_fault_line, too_long_line}
-use Rattle.chv_defs.specs.ScenarioText.{Fault, Sessions, read_scenario}
+use Rattle.chv_defs_scene.specs.ScenarioText.{Fault, Sessions, read_scenario}
 use Rattle.chv_defs.specs.Schedule.{schedule}
 use Rattle.chv_defs.specs.TraceText.{trace_text}
 use Rattle.chv_play.specs.Played.{IsLegalRun}

@@ -1,12 +1,12 @@
 -- Why nothing was played, and what a status says of a run that plays, by cases.
 use Rattle.std.specs.Prelude.{◌≡◌, ◌⊎◌, ◌≤◌, ◌<◌, ℕ, List, [], Option, Result, Ok, Err, length}
-use Rattle.chv_defs.specs.declared.scene.OnShelf.{OnShelf}
-use Rattle.chv_defs.specs.declared.scene.Scene.{Scene}
-use Rattle.chv_defs.specs.declared.bank.Full.{Full}
+use Rattle.chv_defs_api.specs.declared.shelf.OnShelf.{OnShelf}
+use Rattle.chv_defs_scene.specs.declared.scene.Scene.{Scene}
+use Rattle.chv_defs_base.specs.declared.book.Full.{Full}
 use Rattle.chv_defs.specs.declared.trace.Trace.{Trace}
-use Rattle.chv_defs.specs.Outside.{Rose, Gains, GainsPart}
+use Rattle.chv_io.specs.Outside.{Rose, Gains, GainsPart}
 use Rattle.chv_defs.specs.ProgramText.{full_line, read_fault_line, scene_fault_line, too_long_line}
-use Rattle.chv_defs.specs.ScenarioText.{read_scenario}
+use Rattle.chv_defs_scene.specs.ScenarioText.{read_scenario}
 use Rattle.chv_defs.specs.TraceText.{trace_text}
 use Rattle.chv_play.specs.Played.{IsLegalRun}
 use Rattle.chv_top.specs.Outcome.{IsFull, IsInput, IsPartOfOwed, IsPlayed, IsRead, IsRefused, IsTooLong, most_input, of_schedule, text_of}

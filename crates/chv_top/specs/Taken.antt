@@ -1,6 +1,6 @@
 -- What was read of an input.
 use Rattle.std.specs.Prelude.{◌≡◌, ◌≤◌, ◌<◌, ℕ, List, [], ◌++◌, length, Option, IfSome}
-use Rattle.chv_defs.specs.Outside.{Rose, Loses}
+use Rattle.chv_io.specs.Outside.{Rose, Loses}
 use Rattle.chv_top.specs.declared.input.InputError.{InputError}
 use Rattle.chv_top.specs.declared.input.InputError.TheVariants.{Memory, ReadFault}
 

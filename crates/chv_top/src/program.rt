@@ -1,7 +1,7 @@
 // The program's calls.
 ghost use Rattle.std.specs.Prelude.{◌≡◌, ◌≤◌, ◌<◌, true, false, List, Result, Ok, Err, IfOk, IfErr, IfSome, MatchResult, length};
-ghost use Rattle.chv_defs.specs.declared.scene.OnShelf.{OnShelf};
-ghost use Rattle.chv_defs.specs.declared.bank.Full as defs_full;
+ghost use Rattle.chv_defs_api.specs.declared.shelf.OnShelf.{OnShelf};
+ghost use Rattle.chv_defs_base.specs.declared.book.Full as defs_full;
 ghost use Rattle.chv_defs.specs.declared.trace.Trace as defs_trace;
 ghost use Rattle.chv_defs.specs.Schedule.{schedule};
 ghost use Rattle.chv_control.specs.Shelf.{shelf_of};

@@ -1,9 +1,9 @@
 // The public calls.
 ghost use Rattle.std.specs.Prelude.{◌≡◌, ◌⊎◌, ◌≤◌, ◌↔◌, ℕ, IsTrue};
-ghost use Rattle.chv_defs.specs.Outside.{Rose, Gains, GainsPart};
+ghost use Rattle.chv_io.specs.Outside.{Rose, Gains, GainsPart};
 ghost use Rattle.chv_defs.specs.ProgramText.{usage_line, read_fault_line};
-ghost use Rattle.chv_defs.specs.declared.bank.BookId.{BookId};
-ghost use Rattle.chv_defs.specs.declared.rule.Reason.{Reason};
+ghost use Rattle.chv_defs_base.specs.declared.book.BookId.{BookId};
+ghost use Rattle.chv_defs_base.specs.declared.rule.Reason.{Reason};
 ghost use Rattle.chv_control.specs.Shelf.{shelf_of};
 ghost use Rattle.chv_top.specs.Outcome.{IsComplete, IsFull, IsPartOfOwed, IsPlayed, IsRefused, IsTooLong, TakesAtMost};
 ghost use Rattle.chv_top.specs.Words.{ArePlay};

@@ -2,12 +2,12 @@
 use Rattle.std.proofs.Common.{◌≡◌, ℕ, ◌+◌, ◌<◌, List, [], ◌∷◌, ◌++◌, length, take, drop, get_or, flat_map, codes, decimal, Result, Ok, Err, IfOk, IsOkAnd, sym, ◌∙◌, ap, append_assoc}
 use Rattle.std.proofs.lemmas.List.{append-nil, take-append-drop}
 use Rattle.std.proofs.lemmas.Grind.{take_at_read, flat_map-append}
-use Rattle.chv_defs.specs.ScriptText.{field}
+use Rattle.chv_defs_scene.specs.ScriptText.{field}
 use Rattle.chv_defs.specs.TraceText.{pairs_or_dash, control_line, bank_line, bank_part, session_end_text, session_part, trace_text}
-use Rattle.chv_defs.specs.declared.bank.BankEntry.{BankEntry}
-use Rattle.chv_defs.specs.declared.control.ControlEntry.{ControlEntry}
-use Rattle.chv_defs.specs.declared.scene.MadeDisk.{MadeDisk}
-use Rattle.chv_defs.specs.declared.scene.VcpuSection.{VcpuSection}
+use Rattle.chv_defs_memory.specs.declared.bank.BankEntry.{BankEntry}
+use Rattle.chv_defs_api.specs.declared.control.ControlEntry.{ControlEntry}
+use Rattle.chv_defs_scene.specs.declared.scene.MadeDisk.{MadeDisk}
+use Rattle.chv_defs_scene.specs.declared.scene.VcpuSection.{VcpuSection}
 use Rattle.chv_defs.specs.declared.trace.BankTrace.{BankTrace}
 use Rattle.chv_defs.specs.declared.trace.SessionTrace.{SessionTrace}
 use Rattle.chv_defs.specs.declared.trace.Trace.{Trace}

@@ -2,7 +2,7 @@
 use Rattle.std.proofs.Common.{◌≡◌, ℕ, List, [], ◌++◌, length, take, drop, Option, None, Some, Result, Ok, Err, OnOk, OnErr, sym, ap, subst, ◌∙◌, arith, append_assoc, length-append, refl}
 use Rattle.std.proofs.lemmas.List.{append-nil, take-append-drop}
 use Rattle.std.proofs.Math.Seq.{take-append_seam}
-use Rattle.chv_defs.specs.Outside.{Puts, Gains, GainsPart}
+use Rattle.chv_io.specs.Outside.{Puts, Gains, GainsPart}
 use Rattle.chv_trace.specs.Printing.{Adds, BreaksOff}
 
 -- ---- what was put, in two parts

@@ -1,9 +1,9 @@
 -- What printing through a buffer comes to: of all bytes that were added so far, a first part was put into the output,
 -- and the rest is held.
 use Rattle.std.specs.Prelude.{◌≡◌, ℕ, List, ◌++◌, length, codes, Option}
-use Rattle.chv_defs.specs.Numbers.{dec_text}
-use Rattle.chv_defs.specs.Outside.{Gains}
-use Rattle.chv_defs.specs.ScriptText.{field}
+use Rattle.chv_defs_base.specs.Numbers.{dec_text}
+use Rattle.chv_io.specs.Outside.{Gains}
+use Rattle.chv_defs_scene.specs.ScriptText.{field}
 use Rattle.chv_defs.specs.TraceText.{session_end_text}
 use Rattle.chv_defs.specs.declared.trace.BankTrace.{BankTrace}
 use Rattle.chv_defs.specs.declared.trace.SessionTrace.{SessionTrace}

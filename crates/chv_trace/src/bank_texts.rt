@@ -1,7 +1,7 @@
 // Calls on a bank, and its replies.
 ghost use Rattle.std.specs.Prelude.{◌≡◌, ◌++◌, IfOk, string_bytes};
-ghost use Rattle.chv_defs.specs.Numbers.{dec_text, pairs};
-ghost use Rattle.chv_defs.specs.ScriptText.{field};
+ghost use Rattle.chv_defs_base.specs.Numbers.{dec_text, pairs};
+ghost use Rattle.chv_defs_scene.specs.ScriptText.{field};
 ghost use Rattle.chv_defs.specs.TraceText as text;
 
 use crate::fields::after_word;

@@ -1,6 +1,6 @@
 // The fields of a line.
 ghost use Rattle.std.specs.Prelude.{◌≡◌, ◌++◌, IfOk, IsOkAnd, flat_map, string_bytes};
-ghost use Rattle.chv_defs.specs.ScriptText.{field};
+ghost use Rattle.chv_defs_scene.specs.ScriptText.{field};
 ghost use Rattle.chv_defs.specs.TraceText as text;
 
 use chv_defs::{BookId, Text};

@@ -1,7 +1,7 @@
 // Contexts that are handed out and come home.
 ghost use Rattle.std.specs.Prelude.{◌≡◌, ◌++◌, IfOk, codes, string_bytes};
-ghost use Rattle.chv_defs.specs.Numbers.{dec_text};
-ghost use Rattle.chv_defs.specs.ScriptText.{field};
+ghost use Rattle.chv_defs_base.specs.Numbers.{dec_text};
+ghost use Rattle.chv_defs_scene.specs.ScriptText.{field};
 ghost use Rattle.chv_defs.specs.TraceText as text;
 
 use crate::fields::{book_fields, book_text, flag, hex_fields};

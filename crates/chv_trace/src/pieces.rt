@@ -1,8 +1,8 @@
 // The buffer before the output.
 ghost use Rattle.std.specs.Prelude.{◌≡◌, ◌<◌, ◌≤◌, ◌++◌, [], false, OnOk, OnErr, string_bytes, string_len};
 ghost use Rattle.std.specs.Fmt.{digit_glyph};
-ghost use Rattle.chv_defs.specs.Outside.{Rose};
-ghost use Rattle.chv_defs.specs.Numbers.{pair, pairs};
+ghost use Rattle.chv_io.specs.Outside.{Rose};
+ghost use Rattle.chv_defs_base.specs.Numbers.{pair, pairs};
 ghost use Rattle.chv_defs.specs.TraceText.{pairs_or_dash};
 ghost use Rattle.chv_trace.specs.Printing.{Adds, BreaksOff};
 

@@ -1,6 +1,6 @@
 // The printer of traces.
 ghost use Rattle.std.specs.Prelude.{◌≡◌, ◌≤◌, ◌++◌, [], IfOk, OnOk, OnErr, flat_map, string_bytes};
-ghost use Rattle.chv_defs.specs.Outside.{Rose, Gains, GainsPart};
+ghost use Rattle.chv_io.specs.Outside.{Rose, Gains, GainsPart};
 ghost use Rattle.chv_defs.specs.TraceText.{control_line, trace_text};
 ghost use Rattle.chv_trace.specs.Printing.{Adds, BreaksOff, head_text};
 

@@ -1,6 +1,6 @@
 // Control replies.
 ghost use Rattle.std.specs.Prelude.{◌≡◌, IfOk, string_bytes};
-ghost use Rattle.chv_defs.specs.JsonTexts.{device_text};
+ghost use Rattle.chv_defs_api.specs.JsonTexts.{device_text};
 ghost use Rattle.chv_defs.specs.TraceText as text;
 
 use crate::fields::{after_text, after_word};

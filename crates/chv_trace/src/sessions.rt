@@ -1,8 +1,8 @@
 // The sessions of a trace.
 ghost use Rattle.std.specs.Prelude.{◌≡◌, ◌≤◌, ◌++◌, IfOk, OnOk, OnErr, codes, flat_map, string_bytes};
-ghost use Rattle.chv_defs.specs.Outside.{Rose};
-ghost use Rattle.chv_defs.specs.Numbers.{dec_text};
-ghost use Rattle.chv_defs.specs.ScriptText.{field};
+ghost use Rattle.chv_io.specs.Outside.{Rose};
+ghost use Rattle.chv_defs_base.specs.Numbers.{dec_text};
+ghost use Rattle.chv_defs_scene.specs.ScriptText.{field};
 ghost use Rattle.chv_defs.specs.TraceText.{pairs_or_dash, session_end_text, session_part};
 ghost use Rattle.chv_trace.specs.Printing.{Adds, BreaksOff, end_line};
 

@@ -1,6 +1,6 @@
 use Rattle.std.proofs.Common.{◌≡◌, ◌*◌, ◌≤◌, take}
 use Rattle.std.specs.Prelude.{sum_by}
-use Rattle.chv_defs.specs.AddressMap.{blocks_in}
+use Rattle.chv_defs_base.specs.Sizes.{blocks_in}
 use Rattle.chv_addr.proofs.layout.boot_blocks.Given as goal
 
 abbrev pub invariant-loop-config : goal.invariant-loop-config

@@ -1,5 +1,5 @@
 use Rattle.std.proofs.Common.{◌≡◌, ◌*◌, ◌≤◌, ◌++◌, drop}
-use Rattle.chv_defs.specs.AddressMap.{boot_runs}
+use Rattle.chv_addr.specs.AddressMap.{boot_runs}
 use Rattle.chv_addr.proofs.layout.boot_runs.Given as goal
 
 abbrev pub invariant-loop-zone : goal.invariant-loop-zone

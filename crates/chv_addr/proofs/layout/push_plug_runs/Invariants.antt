@@ -1,5 +1,5 @@
 use Rattle.std.proofs.Common.{◌≡◌, ◌+◌, ◌*◌, ◌≤◌, ◌^◌, ◌++◌, drop}
-use Rattle.chv_defs.specs.AddressMap.{plug_runs}
+use Rattle.chv_addr.specs.AddressMap.{plug_runs}
 use Rattle.chv_addr.proofs.layout.push_plug_runs.Given as goal
 
 abbrev pub invariant-loop-zone : goal.invariant-loop-zone

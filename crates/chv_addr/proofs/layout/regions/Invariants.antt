@@ -1,5 +1,5 @@
 use Rattle.std.proofs.Common.{◌≡◌, ◌+◌, ◌*◌, ◌≤◌, ◌^◌, ◌++◌, drop}
-use Rattle.chv_defs.specs.AddressMap.{regions_from}
+use Rattle.chv_addr.specs.AddressMap.{regions_from}
 use Rattle.chv_addr.proofs.layout.regions.Given as goal
 
 abbrev pub invariant-loop-config : goal.invariant-loop-config

@@ -2,8 +2,8 @@ use Rattle.std.proofs.Common.{◌+◌, sym, arith, rules}
 use Rattle.std.specs.Prelude.{nat_le}
 use Rattle.std.proofs.lemmas.List.Sums.{prefix_len_is}
 use Rattle.std.proofs.lemmas.List.Sorted.{IsPartitionPoint-from_clause, IsPartitionedBy-leb}
-use Rattle.chv_defs.specs.declared.run.Run.{Run}
-use Rattle.chv_defs.specs.AddressMap.{run_bytes}
+use Rattle.chv_addr.specs.declared.run.Run.{Run}
+use Rattle.chv_addr.specs.AddressMap.{run_bytes}
 use Rattle.chv_addr.proofs.RunSearch.{ends-ascend}
 use Rattle.chv_addr.proofs.search.count_ended.Goals as goal
 

@@ -1,5 +1,5 @@
 use Rattle.std.proofs.Common.{rules}
-use Rattle.chv_defs.specs.Routes.{call_of_request}
+use Rattle.chv_defs_api.specs.Routes.{call_of_request}
 use Rattle.chv_api.proofs.call.calls_of.Goals as goal
 
 pub returns-in-Some : goal.returns-in-Some

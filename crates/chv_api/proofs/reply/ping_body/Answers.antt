@@ -1,5 +1,5 @@
 use Rattle.std.proofs.Common.{rules}
-use Rattle.chv_defs.specs.Routes.{ping_body}
+use Rattle.chv_defs_api.specs.Routes.{ping_body}
 use Rattle.chv_api.proofs.reply.ping_body.Goals as goal
 
 pub returns : goal.returns

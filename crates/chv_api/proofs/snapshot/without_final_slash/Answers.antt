@@ -1,6 +1,6 @@
 use Rattle.std.proofs.Common.{sym, ◌∙◌, ap, ◌≡◌, ◌++◌, [], ◌∷◌, Some, None, lit<}
 use Rattle.std.proofs.lemmas.Str.Pattern.{strip_suffix_char}
-use Rattle.chv_defs.specs.Routes.{without_final_slash}
+use Rattle.chv_defs_api.specs.Routes.{without_final_slash}
 use Rattle.chv_api.proofs.Slashes.{without_final_slash-front, without_final_slash-whole}
 use Rattle.chv_api.proofs.snapshot.without_final_slash.Goals as goal
 

@@ -1,7 +1,7 @@
 use Rattle.std.proofs.Common.{◌∙◌, ap}
 use Rattle.std.specs.Prelude.{find}
-use Rattle.chv_defs.specs.BankState.{is_sealed, most_blocks}
-use Rattle.chv_defs.specs.BlockSets.{has}
+use Rattle.chv_defs_memory.specs.BankState.{is_sealed, most_blocks}
+use Rattle.chv_defs_memory.specs.BlockSets.{has}
 use Rattle.chv_bank.proofs.Ranges.{find_same}
 use Rattle.chv_bank.proofs.access.find_sealed.Goals as goal
 

@@ -1,7 +1,7 @@
 use Rattle.std.proofs.Common.{◌≡◌, ℕ}
 use Rattle.std.specs.Prelude.{unwrap_or}
-use Rattle.chv_defs.specs.BankState.{if_named, most_blocks}
-use Rattle.chv_defs.specs.PageContents.{byte_at}
+use Rattle.chv_defs_memory.specs.BankState.{if_named, most_blocks}
+use Rattle.chv_defs_memory.specs.PageContents.{byte_at}
 use Rattle.chv_bank.proofs.Spans.{passed}
 use Rattle.chv_bank.proofs.blocks.clear_blocks.Given as goal
 

@@ -1,5 +1,5 @@
 use Rattle.std.proofs.Common.{◌+◌, ◌∙◌, sym}
-use Rattle.chv_defs.specs.BlockSets.{has}
+use Rattle.chv_defs_memory.specs.BlockSets.{has}
 use Rattle.chv_bank.proofs.Ranges.{find_past, find_other}
 use Rattle.chv_bank.proofs.blocks.first_in.Goals as goal
 use Rattle.chv_bank.proofs.blocks.first_in.Goals.{else-belongs-via-then-belongs+else-has, else-belongs-via-else-belongs}

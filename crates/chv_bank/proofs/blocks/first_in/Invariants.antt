@@ -1,7 +1,7 @@
 use Rattle.std.proofs.Common.{◌≡◌}
 use Rattle.std.specs.Prelude.{find}
-use Rattle.chv_defs.specs.BankState.{blocks_in}
-use Rattle.chv_defs.specs.BlockSets.{has}
+use Rattle.chv_defs_memory.specs.BankState.{blocks_in}
+use Rattle.chv_defs_memory.specs.BlockSets.{has}
 use Rattle.chv_bank.proofs.Ranges.{blocks_between}
 use Rattle.chv_bank.proofs.blocks.first_in.Given as goal
 

@@ -1,6 +1,6 @@
 use Rattle.std.proofs.Common.{◌+◌, ◌∙◌, sym, ap}
 use Rattle.std.specs.Prelude.{not}
-use Rattle.chv_defs.specs.BlockSets.{has}
+use Rattle.chv_defs_memory.specs.BlockSets.{has}
 use Rattle.chv_bank.proofs.Ranges.{find_past, find_other}
 use Rattle.chv_bank.proofs.blocks.first_not_in.Goals as goal
 use Rattle.chv_bank.proofs.blocks.first_not_in.Goals.{else-belongs-via-then-belongs+else-not-has, else-belongs-via-else-belongs}

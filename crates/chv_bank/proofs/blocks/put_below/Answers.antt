@@ -1,5 +1,5 @@
 use Rattle.std.proofs.Common.{arith}
-use Rattle.chv_defs.specs.BankState.{most_blocks}
+use Rattle.chv_defs_memory.specs.BankState.{most_blocks}
 use Rattle.chv_bank.proofs.Sets.{without_span-len, with_span-len, below-has}
 use Rattle.chv_bank.proofs.blocks.put_below.Goals as goal
 

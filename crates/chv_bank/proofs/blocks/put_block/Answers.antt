@@ -1,5 +1,5 @@
 use Rattle.std.proofs.Common.{sym, ◌∙◌}
-use Rattle.chv_defs.specs.BankState.{most_blocks}
+use Rattle.chv_defs_memory.specs.BankState.{most_blocks}
 use Rattle.chv_bank.proofs.Sets.{with_span-len, without_span-len, in-here, in-other, out-here, out-other}
 use Rattle.chv_bank.proofs.blocks.put_block.Goals as goal
 

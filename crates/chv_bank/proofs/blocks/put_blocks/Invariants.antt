@@ -1,7 +1,7 @@
 use Rattle.std.proofs.Common.{◌≡◌, ℕ, ◌<◌, length}
 use Rattle.std.specs.Prelude.{unwrap_or}
-use Rattle.chv_defs.specs.BankState.{if_named, most_blocks}
-use Rattle.chv_defs.specs.BlockSets.{has}
+use Rattle.chv_defs_memory.specs.BankState.{if_named, most_blocks}
+use Rattle.chv_defs_memory.specs.BlockSets.{has}
 use Rattle.chv_bank.proofs.Spans.{passed}
 use Rattle.chv_bank.proofs.blocks.put_blocks.Given as goal
 

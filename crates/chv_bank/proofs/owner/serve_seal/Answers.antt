@@ -1,7 +1,7 @@
 use Rattle.std.proofs.Common.{◌≡◌, ◌∙◌, Some, None, sym, ap}
-use Rattle.chv_defs.specs.declared.bank.BankReply.TheVariants as reply
-use Rattle.chv_defs.specs.BankState.{blocks_in, lowest_pinned, lowest_pinner, pins_of}
-use Rattle.chv_defs.specs.LegalBank.{busy_or_sealed}
+use Rattle.chv_defs_memory.specs.declared.bank.BankReply.TheVariants as reply
+use Rattle.chv_defs_memory.specs.BankState.{blocks_in, lowest_pinned, lowest_pinner, pins_of}
+use Rattle.chv_defs_memory.specs.LegalBank.{busy_or_sealed}
 use Rattle.chv_bank.proofs.RowBlocks.{pinned-same, pinner-same}
 use Rattle.chv_bank.proofs.owner.serve_seal.Goals as goal
 

@@ -1,5 +1,5 @@
 use Rattle.std.proofs.Common.{◌∙◌, arith}
-use Rattle.chv_defs.specs.BankState.{most_blocks}
+use Rattle.chv_defs_memory.specs.BankState.{most_blocks}
 use Rattle.chv_bank.proofs.ShownPages.{history-counted, shown-few}
 use Rattle.chv_bank.proofs.owner.shown_pages.Goals as goal
 

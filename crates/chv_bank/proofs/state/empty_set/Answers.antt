@@ -1,6 +1,6 @@
 use Rattle.std.proofs.Common.{◌∙◌, ap, false, length}
 use Rattle.std.proofs.lemmas.Result.{IfOk-weaker}
-use Rattle.chv_defs.specs.BlockSets.{has}
+use Rattle.chv_defs_memory.specs.BlockSets.{has}
 use Rattle.chv_bank.proofs.Sets.{has-numbers_where, len-numbers_where}
 use Rattle.chv_bank.proofs.state.empty_set.Goals as goal
 

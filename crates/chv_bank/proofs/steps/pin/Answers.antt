@@ -1,6 +1,6 @@
 use Rattle.std.proofs.Common.{◌++◌, ◌∷◌, [], List, refl, sym, subst}
 use Rattle.std.proofs.lemmas.Result.{IfOk-weaker}
-use Rattle.chv_defs.specs.BankState.{PinOut}
+use Rattle.chv_defs_memory.specs.BankState.{PinOut}
 use Rattle.chv_bank.specs.CallerPins.{CallerPins, HoldPins}
 use Rattle.chv_bank.proofs.RowLaws.{holds-with}
 use Rattle.chv_bank.proofs.steps.pin.Goals as goal

@@ -1,7 +1,7 @@
 use Rattle.std.proofs.Common.{◌∙◌, sym, subst, ◌≡◌}
 use Rattle.std.specs.Prelude.{IfOk, Option}
-use Rattle.chv_defs.specs.declared.rule.Rule.{Rule}
-use Rattle.chv_defs.specs.ConfigRules.{memory_rules, device_rules}
+use Rattle.chv_defs_base.specs.declared.rule.Rule.{Rule}
+use Rattle.chv_defs_api.specs.ConfigRules.{memory_rules, device_rules}
 use Rattle.chv_config.proofs.Firsts.{first_broken-some, first_broken-none}
 use Rattle.chv_config.proofs.answers.later_rule.Goals as goal
 

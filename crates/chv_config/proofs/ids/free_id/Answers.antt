@@ -1,6 +1,6 @@
 use Rattle.std.proofs.Common.{sym, ap, ◌∙◌, true, ◌≡◌, ℕ, arith, subst, length}
 use Rattle.std.specs.Prelude.{IfOk}
-use Rattle.chv_defs.specs.ConfigRules.{default_id, is_free, lowest_free}
+use Rattle.chv_defs_api.specs.ConfigRules.{default_id, is_free, lowest_free}
 use Rattle.chv_config.proofs.DefaultIds.{lowest_free-at, lowest_free-none, is_free-absent}
 use Rattle.chv_config.proofs.ids.free_id.Goals as goal
 

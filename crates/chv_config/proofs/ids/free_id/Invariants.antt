@@ -1,5 +1,5 @@
 use Rattle.std.proofs.Common.{◌≡◌, ◌<◌, ℕ, false}
-use Rattle.chv_defs.specs.ConfigRules.{is_free}
+use Rattle.chv_defs_api.specs.ConfigRules.{is_free}
 use Rattle.chv_config.proofs.ids.free_id.Given as goal
 
 abbrev pub invariant-loop-k : goal.invariant-loop-k

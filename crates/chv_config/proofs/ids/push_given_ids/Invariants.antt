@@ -1,5 +1,5 @@
 use Rattle.std.proofs.Common.{◌≡◌, ◌++◌, drop}
-use Rattle.chv_defs.specs.ConfigRules.{given_ids}
+use Rattle.chv_defs_api.specs.ConfigRules.{given_ids}
 use Rattle.chv_config.proofs.ids.push_given_ids.Given as goal
 
 abbrev pub invariant-loop-disk : goal.invariant-loop-disk

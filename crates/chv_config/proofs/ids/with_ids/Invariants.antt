@@ -1,5 +1,5 @@
 use Rattle.std.proofs.Common.{◌≡◌, ◌++◌, drop}
-use Rattle.chv_defs.specs.ConfigRules.{with_ids}
+use Rattle.chv_defs_api.specs.ConfigRules.{with_ids}
 use Rattle.chv_config.proofs.ids.with_ids.Given as goal
 
 abbrev pub invariant-loop-disk : goal.invariant-loop-disk

@@ -1,4 +1,4 @@
-use Rattle.chv_defs.specs.ConfigRules.{ids_of, zones_in_effect}
+use Rattle.chv_defs_api.specs.ConfigRules.{ids_of, zones_in_effect}
 use Rattle.chv_config.proofs.Kept.{KeepsDeviceRules, keeps_device_rules, with_ids-set, devices_are_few, devices_are_distinct, devices_are_named}
 use Rattle.chv_config.proofs.laws.kept_devices_are_distinct.Goals as goal
 

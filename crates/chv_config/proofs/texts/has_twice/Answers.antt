@@ -1,6 +1,6 @@
 use Rattle.std.proofs.Common.{◌≡◌, ◌++◌, ◌∷◌, true, false, ◌∙◌, sym, ap}
 use Rattle.std.specs.Vec.Iter.{into_iter_items}
-use Rattle.chv_defs.specs.ConfigRules.{has_text, has_twice}
+use Rattle.chv_defs_api.specs.ConfigRules.{has_text, has_twice}
 use Rattle.chv_config.proofs.Twice.{has_twice-none, has_twice-seen, seen-step, was_there, was_absent, items-step}
 use Rattle.chv_config.proofs.texts.has_twice.Goals as goal
 

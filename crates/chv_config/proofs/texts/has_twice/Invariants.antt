@@ -1,5 +1,5 @@
 use Rattle.std.proofs.Common.{◌≡◌, ◌++◌, ℕ, List, false}
-use Rattle.chv_defs.specs.ConfigRules.{has_text, has_twice}
+use Rattle.chv_defs_api.specs.ConfigRules.{has_text, has_twice}
 use Rattle.std.specs.Vec.Iter.{into_iter_items}
 use Rattle.chv_config.proofs.texts.has_twice.Given as goal
 

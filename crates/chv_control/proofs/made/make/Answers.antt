@@ -1,5 +1,5 @@
 use Rattle.std.proofs.Common.{◌≡◌, true, sym, subst, ◌∙◌}
-use Rattle.chv_defs.specs.Desks.{can_have}
+use Rattle.chv_defs_api.specs.Desks.{can_have}
 use Rattle.chv_control.proofs.Fits.{fits}
 use Rattle.chv_control.proofs.made.make.Goals as goal
 

@@ -1,8 +1,8 @@
 use Rattle.std.proofs.Common.{◌∙◌, ap}
 use Rattle.std.specs.Result.{result_err}
-use Rattle.chv_defs.specs.declared.control.ControlReply.TheVariants.{Done}
-use Rattle.chv_defs.specs.ApiStep.{names_of, refused_or}
-use Rattle.chv_defs.specs.ConfigRules.{check_answer, checked_of, verdict}
+use Rattle.chv_defs_api.specs.declared.control.ControlReply.TheVariants.{Done}
+use Rattle.chv_defs_control.specs.ApiStep.{names_of, refused_or}
+use Rattle.chv_defs_api.specs.ConfigRules.{check_answer, checked_of, verdict}
 use Rattle.chv_ctl_api.proofs.Verdicts.{err-unless_refused}
 use Rattle.chv_ctl_api.proofs.creation.answer_config.Goals as goal
 

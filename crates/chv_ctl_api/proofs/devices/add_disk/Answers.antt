@@ -1,9 +1,9 @@
 use Rattle.std.proofs.Common.{◌≡◌, sym, ap, ◌∙◌, Some, Ok, Err}
 use Rattle.std.specs.Prelude.{Option, unwrap_or}
-use Rattle.chv_defs.specs.declared.machine.Machine.{Machine}
-use Rattle.chv_defs.specs.declared.config.Checked.{Checked}
-use Rattle.chv_defs.specs.ApiStep.{names_of, now_of, with_new_disk}
-use Rattle.chv_defs.specs.ConfigRules.{check_disk_answer, first_broken, further_disk_rules, with_disk}
+use Rattle.chv_defs_control.specs.declared.machine.Machine.{Machine}
+use Rattle.chv_defs_api.specs.declared.config.Checked.{Checked}
+use Rattle.chv_defs_control.specs.ApiStep.{names_of, now_of, with_new_disk}
+use Rattle.chv_defs_api.specs.ConfigRules.{check_disk_answer, first_broken, further_disk_rules, with_disk}
 use Rattle.chv_ctl_api.proofs.Verdicts.{OnOk-map, none-from_added, some-from_err, value-from_ok}
 use Rattle.chv_ctl_api.proofs.devices.add_disk.Goals as goal
 

@@ -1,9 +1,9 @@
 use Rattle.std.proofs.Common.{◌≡◌, ◌∙◌, refl, sym, ap, None}
 use Rattle.std.specs.Option.{option_or}
 use Rattle.std.specs.Result.{result_err}
-use Rattle.chv_defs.specs.declared.control.ControlReply.TheVariants.{Done}
-use Rattle.chv_defs.specs.ApiStep.{has_full_slots, is_booted, names_of, refused_or}
-use Rattle.chv_defs.specs.ConfigRules.{check_disk_answer, device_ids, first_broken, further_disk_rules, with_id}
+use Rattle.chv_defs_api.specs.declared.control.ControlReply.TheVariants.{Done}
+use Rattle.chv_defs_control.specs.ApiStep.{has_full_slots, is_booted, names_of, refused_or}
+use Rattle.chv_defs_api.specs.ConfigRules.{check_disk_answer, device_ids, first_broken, further_disk_rules, with_id}
 use Rattle.chv_ctl_api.proofs.Verdicts.{err-unless_refused, or-slots_full, reply_to-add, slots_full}
 use Rattle.chv_ctl_api.proofs.devices.answer_add_disk.Goals as goal
 

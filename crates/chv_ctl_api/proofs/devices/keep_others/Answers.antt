@@ -2,8 +2,8 @@ use Rattle.std.proofs.Common.{rules, ◌∙◌, ap}
 use Rattle.std.specs.Prelude.{not, filter}
 use borrow.Author.Tests.{tests}
 use Rattle.std.proofs.lemmas.Fn.{filter_same}
-use Rattle.chv_defs.specs.declared.config.DiskConfig.{DiskConfig}
-use Rattle.chv_defs.specs.ApiStep.{has_id}
+use Rattle.chv_defs_api.specs.declared.config.DiskConfig.{DiskConfig}
+use Rattle.chv_defs_control.specs.ApiStep.{has_id}
 use Rattle.chv_ctl_api.proofs.devices.keep_others.Goals as goal
 
 pub returns : goal.returns

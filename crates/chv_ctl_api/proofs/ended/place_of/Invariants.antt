@@ -1,5 +1,5 @@
 use Rattle.std.proofs.Common.{length, ◌-◌, ◌≡◌, ◌≤◌, ◌++◌, take, drop}
-use Rattle.chv_defs.specs.ApiStep.{with_number}
+use Rattle.chv_defs_control.specs.ApiStep.{with_number}
 use Rattle.chv_ctl_api.proofs.ended.place_of.Given as goal
 
 abbrev pub invariant-loop-at : goal.invariant-loop-at

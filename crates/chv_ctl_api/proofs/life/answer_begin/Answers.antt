@@ -1,6 +1,6 @@
 use Rattle.std.proofs.Common.{sym, ap, ◌∙◌}
-use Rattle.chv_defs.specs.ApiStep.{reply_to}
-use Rattle.chv_defs.specs.declared.control.ControlCall.TheVariants.{Begin}
+use Rattle.chv_defs_control.specs.ApiStep.{reply_to}
+use Rattle.chv_defs_api.specs.declared.control.ControlCall.TheVariants.{Begin}
 use Rattle.chv_ctl_api.proofs.life.answer_begin.Goals as goal
 
 pub returns-in-Pause : goal.returns-in-Pause

@@ -1,5 +1,5 @@
 use Rattle.std.proofs.Common.{◌≡◌, map, take}
-use Rattle.chv_defs.specs.Shown.{shown_zone}
+use Rattle.chv_defs_control.specs.Shown.{shown_zone}
 use Rattle.chv_ctl_api.proofs.queries.zones_of.Given as goal
 
 abbrev pub invariant-loop-zone : goal.invariant-loop-zone

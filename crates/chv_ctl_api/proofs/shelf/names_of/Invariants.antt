@@ -1,5 +1,5 @@
 use Rattle.std.proofs.Common.{◌≡◌, ◌++◌, drop}
-use Rattle.chv_defs.specs.ApiStep.{names_of}
+use Rattle.chv_defs_control.specs.ApiStep.{names_of}
 use Rattle.chv_ctl_api.proofs.shelf.names_of.Given as goal
 
 abbrev pub invariant-loop-disk : goal.invariant-loop-disk

@@ -1,5 +1,5 @@
 use Rattle.std.proofs.Common.{sym, ap, ◌∙◌}
-use Rattle.chv_defs.specs.ApiStep.{reply_to}
+use Rattle.chv_defs_control.specs.ApiStep.{reply_to}
 use Rattle.chv_ctl_api.proofs.Verdicts.{IfOk-map}
 use Rattle.chv_ctl_api.proofs.step.api_reply.Goals as goal
 

@@ -1,7 +1,7 @@
 use Rattle.std.proofs.Common.{◌≡◌, sym, ap, ◌∙◌, subst}
-use Rattle.chv_defs.specs.declared.machine.Machine.{Machine}
-use Rattle.chv_defs.specs.Machine.{IsWellFormed}
-use Rattle.chv_defs.specs.ApiStep.{after, reply_to}
+use Rattle.chv_defs_control.specs.declared.machine.Machine.{Machine}
+use Rattle.chv_defs_control.specs.Machine.{IsWellFormed}
+use Rattle.chv_defs_control.specs.ApiStep.{after, reply_to}
 use Rattle.chv_ctl_api.proofs.Kept.{IsWellFormed-after}
 use Rattle.chv_ctl_api.proofs.step.api_step.Goals as goal
 

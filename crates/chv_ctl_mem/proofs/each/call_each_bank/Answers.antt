@@ -1,6 +1,6 @@
 use Rattle.std.proofs.Common.{◌≡◌, [], ◌∷◌, subst, sym, arith, ℕ, rules}
-use Rattle.chv_defs.specs.BankState.{banks}
-use Rattle.chv_defs.specs.Zones.{Known}
+use Rattle.chv_defs_memory.specs.BankState.{banks}
+use Rattle.chv_defs_memory.specs.Zones.{Known}
 use Rattle.chv_ctl_mem.specs.BankChanges.{calls_made, is_bank_below, AreChanged, MayMake}
 use Rattle.chv_ctl_mem.proofs.ChangeLaws.{all-banks, bank-not-reached, next-bank, no-bank-below}
 use Rattle.chv_ctl_mem.proofs.each.call_each_bank.Goals as goal

@@ -1,7 +1,7 @@
 use Rattle.std.proofs.Common.{◌≡◌, ◌≤◌, ap, length, arith, rules}
 use Rattle.std.proofs.lemmas.Grind.{common_steps}
-use Rattle.chv_defs.specs.ApiStep.{is_paused}
-use Rattle.chv_defs.specs.Zones.{most_zones}
+use Rattle.chv_defs_control.specs.ApiStep.{is_paused}
+use Rattle.chv_defs_memory.specs.Zones.{most_zones}
 use Rattle.chv_ctl_mem.proofs.CallSteps.{ready-to-wipe, shutdown-left}
 use Rattle.chv_ctl_mem.proofs.wipe.wipe_all.Goals as goal
 

@@ -1,6 +1,6 @@
 use Rattle.std.proofs.Common.{set, sym, ap, ◌∙◌}
 use Rattle.std.proofs.lemmas.List.Edits.{map_over_more}
-use Rattle.chv_defs.specs.BankBook.{BankBook}
+use Rattle.chv_defs_memory.specs.BankBook.{BankBook}
 use Rattle.chv_guest.specs.Room.{keep_places}
 use Rattle.chv_guest.proofs.room.keep_room_in.Goals as goal
 

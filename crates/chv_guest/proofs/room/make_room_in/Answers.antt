@@ -1,7 +1,7 @@
 use Rattle.std.proofs.Common.{◌≡◌, ◌<◌, true, false, None, length, get_or, set, map, sym, ap, ◌∙◌, arith, Bool}
 use Rattle.std.specs.Prelude.{if◌then◌else◌}
 use Rattle.std.proofs.lemmas.List.Edits.{map_over_more}
-use Rattle.chv_defs.specs.BankBook.{BankBook, room_refusal}
+use Rattle.chv_defs_memory.specs.BankBook.{BankBook, room_refusal}
 use Rattle.chv_guest.specs.Room.{is_made, with_places}
 use Rattle.chv_guest.proofs.Refusals.{get_or-changed_front, grown_bank, kept_bank, none_due, refusal_in-none, undone}
 use Rattle.chv_guest.proofs.room.make_room_in.Goals as goal

@@ -1,6 +1,6 @@
 use Rattle.std.proofs.Common.{◌≡◌, ℕ, ◌-◌, get_or, set, min, sym, ap, ◌∙◌, arith}
 use Rattle.std.proofs.lemmas.List.Edits.{map_over_more}
-use Rattle.chv_defs.specs.BankBook.{BankBook}
+use Rattle.chv_defs_memory.specs.BankBook.{BankBook}
 use Rattle.chv_guest.specs.Room.{without_places}
 use Rattle.chv_guest.proofs.room.undo_room.Goals as goal
 

@@ -1,5 +1,5 @@
 use Rattle.std.proofs.Common.{ap, sym, ◌∙◌, ◌++◌, option_to_list, option_copied}
-use Rattle.chv_defs.specs.Requests.{content_length}
+use Rattle.chv_defs_api.specs.Requests.{content_length}
 use Rattle.chv_http.proofs.FieldLemmas.{values_more, values_same, first_value, second_value}
 use Rattle.chv_http.proofs.fields.announced_length.Goals as goal
 

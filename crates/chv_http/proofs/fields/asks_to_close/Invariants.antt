@@ -1,7 +1,7 @@
 use Rattle.std.proofs.Common.{◌≡◌, drop, map}
 use Rattle.std.specs.List.{list_any}
 use Rattle.httparse.specs.Spans.{header_bytes}
-use Rattle.chv_defs.specs.Requests.{asks_to_close}
+use Rattle.chv_defs_api.specs.Requests.{asks_to_close}
 use Rattle.chv_http.proofs.fields.asks_to_close.Given as goal
 
 -- the fields that are left decide

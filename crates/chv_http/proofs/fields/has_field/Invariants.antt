@@ -1,7 +1,7 @@
 use Rattle.std.proofs.Common.{◌≡◌, drop, map}
 use Rattle.std.specs.List.{list_any}
 use Rattle.httparse.specs.Spans.{header_bytes}
-use Rattle.chv_defs.specs.Requests.{is_named}
+use Rattle.chv_defs_api.specs.Requests.{is_named}
 use Rattle.chv_http.proofs.fields.has_field.Given as goal
 
 -- the fields that are left decide

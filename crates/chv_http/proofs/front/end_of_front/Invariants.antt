@@ -1,5 +1,5 @@
 use Rattle.std.proofs.Common.{ℕ, ◌≤◌}
-use Rattle.chv_defs.specs.HttpFront.{Closes}
+use Rattle.chv_defs_api.specs.HttpFront.{Closes}
 use Rattle.chv_http.proofs.front.end_of_front.Given as goal
 
 -- no front ends at or before the place

@@ -1,4 +1,4 @@
-use Rattle.chv_defs.specs.StreamCut.{cut}
+use Rattle.chv_defs_api.specs.StreamCut.{cut}
 use Rattle.chv_http.proofs.CutFunctionLemmas.{cut_gives}
 use Rattle.chv_http.proofs.CutLemmas.{cuts_is_one}
 use Rattle.chv_http.proofs.laws.cut_computes.Goals as goal

@@ -1,5 +1,5 @@
 use Rattle.std.proofs.Common.{◌++◌, ◌∙◌, ap, decimal, length, string_bytes}
-use Rattle.chv_defs.specs.Replies.{type_text, length_text, line_end}
+use Rattle.chv_defs_api.specs.Replies.{type_text, length_text, line_end}
 use Rattle.chv_http.proofs.ReplyLemmas.{behind_length}
 use Rattle.chv_http.proofs.reply.push_json.Goals as goal
 

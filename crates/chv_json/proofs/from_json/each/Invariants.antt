@@ -1,6 +1,6 @@
 use Rattle.std.proofs.Common.{◌≡◌, drop}
 use Rattle.serde_json.specs.View.{items_view}
-use Rattle.chv_defs.specs.JsonBodies.{each}
+use Rattle.chv_defs_api.specs.JsonBodies.{each}
 use Rattle.chv_json.proofs.Front.{with_front}
 use Rattle.chv_json.proofs.from_json.each.Given as goal
 

@@ -1,4 +1,4 @@
-use Rattle.chv_defs.specs.Numbers.{is_decimal_digit}
+use Rattle.chv_defs_base.specs.Numbers.{is_decimal_digit}
 use Rattle.chv_num.proofs.Bases.{decimal_base}
 use Rattle.chv_num.proofs.Spelling.{one_spelling, read_back}
 use Rattle.chv_num.proofs.laws.dec_has_one_spelling.Goals as goal

@@ -1,5 +1,5 @@
 use Rattle.std.proofs.Common.{◌≡◌, length}
-use Rattle.chv_defs.specs.Numbers.{bytes_in}
+use Rattle.chv_defs_base.specs.Numbers.{bytes_in}
 use Rattle.chv_num.proofs.Front.{with_front}
 use Rattle.chv_num.proofs.pairs.bytes_in.Given as goal
 

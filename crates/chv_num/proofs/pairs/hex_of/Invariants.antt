@@ -1,5 +1,5 @@
 use Rattle.std.proofs.Common.{◌≡◌, take, string_bytes}
-use Rattle.chv_defs.specs.Numbers.{pairs}
+use Rattle.chv_defs_base.specs.Numbers.{pairs}
 use Rattle.chv_num.proofs.pairs.hex_of.Given as goal
 
 abbrev pub invariant-loop-byte : goal.invariant-loop-byte

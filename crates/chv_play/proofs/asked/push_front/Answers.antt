@@ -1,4 +1,4 @@
-use Rattle.chv_defs.specs.SceneText.{host_part}
+use Rattle.chv_defs_scene.specs.SceneText.{host_part}
 use Rattle.chv_play.proofs.PartLemmas.{three_parts}
 use Rattle.chv_play.proofs.asked.push_front.Goals as goal
 

@@ -1,4 +1,4 @@
-use Rattle.chv_defs.specs.SceneText.{get_front}
+use Rattle.chv_defs_scene.specs.SceneText.{get_front}
 use Rattle.chv_play.proofs.PartLemmas.{two_parts}
 use Rattle.chv_play.proofs.asked.push_get.Goals as goal
 

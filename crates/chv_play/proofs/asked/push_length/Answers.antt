@@ -1,5 +1,5 @@
 use Rattle.std.proofs.Common.{◌∙◌, decimal}
-use Rattle.chv_defs.specs.Replies.{length_text}
+use Rattle.chv_defs_api.specs.Replies.{length_text}
 use Rattle.chv_play.proofs.PartLemmas.{header_parts}
 use Rattle.chv_play.proofs.asked.push_length.Goals as goal
 

@@ -1,6 +1,6 @@
 use Rattle.std.proofs.Common.{◌++◌, decimal, length}
-use Rattle.chv_defs.specs.Replies.{length_text, line_end}
-use Rattle.chv_defs.specs.SceneText.{put_front, host_part}
+use Rattle.chv_defs_api.specs.Replies.{length_text, line_end}
+use Rattle.chv_defs_scene.specs.SceneText.{put_front, host_part}
 use Rattle.chv_play.proofs.PartLemmas.{put_parts}
 use Rattle.chv_play.proofs.asked.push_put.Goals as goal
 

@@ -1,6 +1,6 @@
 use Rattle.std.proofs.Common.{◌≡◌, false}
-use Rattle.chv_defs.specs.Machine.{IsSession}
-use Rattle.chv_defs.specs.Desks.{is_held}
+use Rattle.chv_defs_api.specs.Desks.{IsSession}
+use Rattle.chv_defs_api.specs.Desks.{is_held}
 use Rattle.chv_rows_control.proofs.session.run.Given as goal
 
 abbrev pub invariant-loop : goal.invariant-loop

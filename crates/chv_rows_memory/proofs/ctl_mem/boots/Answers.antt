@@ -1,5 +1,5 @@
 use Rattle.std.proofs.Common.{false, sym, subst, List}
-use Rattle.chv_defs.specs.BankBook.{BankBook}
+use Rattle.chv_defs_memory.specs.BankBook.{BankBook}
 use Rattle.chv_guest.specs.LentBanks.{known_at}
 use Rattle.chv_ctl_mem.specs.ZoneCalls.{AreAtRest}
 use Rattle.chv_rows_memory.proofs.AtRest.{fresh-at-rest}

@@ -1,7 +1,7 @@
 use Rattle.std.proofs.Common.{ap, ◌∙◌}
-use Rattle.chv_defs.specs.declared.bank.BankCall.TheVariants as call
-use Rattle.chv_defs.specs.Zones.{Known}
-use Rattle.chv_defs.proofs.ZoneLaws.{entered_by, enters-none}
+use Rattle.chv_defs_memory.specs.declared.bank.BankCall.TheVariants as call
+use Rattle.chv_defs_memory.specs.Zones.{Known}
+use Rattle.chv_defs_memory.proofs.ZoneLaws.{entered_by, enters-none}
 use Rattle.chv_guest.specs.LentBanks.{known_at}
 use Rattle.chv_rows_memory.proofs.ctl_mem.freeze.Goals as goal
 

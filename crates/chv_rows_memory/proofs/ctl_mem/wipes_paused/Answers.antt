@@ -1,6 +1,6 @@
 use Rattle.std.proofs.Common.{◌≡◌, ℕ, ◌<◌, Bool, length, ap, sym, subst}
-use Rattle.chv_defs.specs.ApiStep.{is_paused}
-use Rattle.chv_defs.specs.OwnerCalls.{zones_of}
+use Rattle.chv_defs_control.specs.ApiStep.{is_paused}
+use Rattle.chv_defs_control.specs.OwnerCalls.{zones_of}
 use Rattle.chv_guest.specs.LentBanks.{known_at}
 use Rattle.chv_ctl_mem.specs.ZoneCalls.{AreAtRest}
 use Rattle.chv_rows_memory.proofs.AtRest.{frozen-at-rest, frozen_bank}

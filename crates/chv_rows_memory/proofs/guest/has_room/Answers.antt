@@ -1,5 +1,5 @@
 use Rattle.std.proofs.Common.{◌+◌, ap, sym, ◌∙◌}
-use Rattle.chv_defs.specs.Zones.{Known}
+use Rattle.chv_defs_memory.specs.Zones.{Known}
 use Rattle.chv_guest.specs.LentBanks.{known_at}
 use Rattle.chv_rows_memory.proofs.NoOthers.{room_made}
 use Rattle.chv_rows_memory.proofs.guest.has_room.Goals as goal

@@ -1,9 +1,9 @@
 use Rattle.std.proofs.Common.{◌≡◌, ℕ, ◌-◌, List, [], ◌∷◌, ap, arith, ◌∙◌}
-use Rattle.chv_defs.specs.declared.bank.BankCall.TheVariants as call
-use Rattle.chv_defs.specs.declared.bank.BankEntry.{BankEntry}
-use Rattle.chv_defs.specs.declared.bank.BankReply.TheVariants as reply
-use Rattle.chv_defs.specs.Zones.{Known}
-use Rattle.chv_defs.proofs.ZoneLaws.{entered_by, enters-none}
+use Rattle.chv_defs_memory.specs.declared.bank.BankCall.TheVariants as call
+use Rattle.chv_defs_memory.specs.declared.bank.BankEntry.{BankEntry}
+use Rattle.chv_defs_memory.specs.declared.bank.BankReply.TheVariants as reply
+use Rattle.chv_defs_memory.specs.Zones.{Known}
+use Rattle.chv_defs_memory.proofs.ZoneLaws.{entered_by, enters-none}
 use Rattle.chv_guest.specs.LentBanks.{known_at}
 use Rattle.chv_rows_memory.proofs.guest.shape.Goals as goal
 

@@ -1,5 +1,5 @@
 use Rattle.std.proofs.Common.{rules, ◌≡◌, ◌∙◌, length, sym, ap, ap₂, arith}
-use Rattle.chv_defs.specs.ScenarioText.{lines_of}
+use Rattle.chv_defs_scene.specs.ScenarioText.{lines_of}
 use Rattle.chv_scene.specs.Answer.{answer_of}
 use Rattle.chv_scene.specs.Reading.{read_from}
 use Rattle.chv_scene.proofs.ReadingLemmas.{of_none}

@@ -1,5 +1,5 @@
 use Rattle.std.proofs.Common.{◌≡◌, ◌≤◌, ◌+◌, length}
-use Rattle.chv_defs.specs.ScenarioText.{lines_of, read_scenario}
+use Rattle.chv_defs_scene.specs.ScenarioText.{lines_of, read_scenario}
 use Rattle.chv_scene.specs.Reading.{resumed}
 use Rattle.chv_scene.proofs.scenario.read.Given as goal
 

@@ -1,6 +1,6 @@
 use Rattle.std.proofs.Common.{◌≡◌, ◌≤◌, ◌-◌, vec_len}
-use Rattle.chv_defs.specs.Links.{ReadLeaves}
-use Rattle.chv_defs.specs.SessionBytes.{session_limit}
+use Rattle.chv_io.specs.Links.{ReadLeaves}
+use Rattle.chv_defs_api.specs.SessionBytes.{session_limit}
 use Rattle.chv_session.specs.Taking.{TakesPieces, HasFed}
 use Rattle.chv_session.proofs.fill.fill.Given as goal
 

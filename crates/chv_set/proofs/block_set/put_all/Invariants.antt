@@ -1,5 +1,5 @@
 use Rattle.std.proofs.Common.{◌≡◌, ℕ, ◌<◌, ◌≤◌, length}
-use Rattle.chv_defs.specs.BlockSets.{has}
+use Rattle.chv_defs_memory.specs.BlockSets.{has}
 use Rattle.chv_set.proofs.block_set.put_all.Given as goal
 
 abbrev pub invariant-loop-block : goal.invariant-loop-block

@@ -1,5 +1,5 @@
 use Rattle.std.proofs.Common.{◌≡◌, take}
-use Rattle.chv_defs.specs.BlockSets.{runs_of, members}
+use Rattle.chv_defs_memory.specs.BlockSets.{runs_of, members}
 use Rattle.chv_set.proofs.runs.runs_in.Given as goal
 
 abbrev pub invariant-loop-block : goal.invariant-loop-block

@@ -1,5 +1,5 @@
 use Rattle.std.proofs.Common.{◌≤◌, ◌-◌, length, vec_len}
-use Rattle.chv_defs.specs.Outside.{Loses}
+use Rattle.chv_io.specs.Outside.{Loses}
 use Rattle.chv_top.proofs.input.read_input.Given as goal
 
 abbrev pub invariant-loop-bytes : goal.invariant-loop-bytes

@@ -1,7 +1,7 @@
 use Rattle.std.proofs.Common.{◌≡◌, ◌∙◌, List, ap, refl, subst}
-use Rattle.chv_defs.specs.ScenarioText.{Sessions}
+use Rattle.chv_defs_scene.specs.ScenarioText.{Sessions}
 use Rattle.chv_defs.specs.Schedule.{schedule}
-use Rattle.chv_defs.specs.declared.scene.OnShelf.{OnShelf}
+use Rattle.chv_defs_api.specs.declared.shelf.OnShelf.{OnShelf}
 use Rattle.chv_control.specs.Shelf as control
 use Rattle.chv_top.specs.Given.{handed_in}
 use Rattle.chv_top.specs.Says.{Reports}

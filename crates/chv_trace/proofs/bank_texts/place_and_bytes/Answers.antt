@@ -1,6 +1,6 @@
 use Rattle.std.proofs.Common.{◌++◌, ◌∙◌, ap, string_bytes, decimal}
-use Rattle.chv_defs.specs.Numbers.{pairs}
-use Rattle.chv_defs.specs.ScriptText.{field}
+use Rattle.chv_defs_base.specs.Numbers.{pairs}
+use Rattle.chv_defs_scene.specs.ScriptText.{field}
 use Rattle.chv_trace.proofs.Joined.{printed_same}
 use Rattle.chv_trace.proofs.bank_texts.place_and_bytes.Goals as goal
 

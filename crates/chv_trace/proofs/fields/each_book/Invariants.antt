@@ -1,5 +1,5 @@
 use Rattle.std.proofs.Common.{◌≡◌, flat_map, take, string_bytes}
-use Rattle.chv_defs.specs.ScriptText.{field}
+use Rattle.chv_defs_scene.specs.ScriptText.{field}
 use Rattle.chv_defs.specs.TraceText.{book_text}
 use Rattle.chv_trace.proofs.fields.each_book.Given as goal
 

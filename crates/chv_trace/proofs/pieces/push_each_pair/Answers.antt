@@ -1,5 +1,5 @@
 use Rattle.std.proofs.Common.{◌+◌, flat_map, drop, refl, arith}
-use Rattle.chv_defs.specs.Numbers.{pair}
+use Rattle.chv_defs_base.specs.Numbers.{pair}
 use Rattle.chv_trace.proofs.Joined.{flat_map_next, flat_map_rest}
 use Rattle.chv_trace.proofs.Putting.{next_added, next_broken}
 use Rattle.chv_trace.proofs.pieces.push_each_pair.Goals as goal

@@ -1,5 +1,5 @@
 use Rattle.std.proofs.Common.{◌≤◌, flat_map, take, string_bytes}
-use Rattle.chv_defs.specs.Numbers.{pair}
+use Rattle.chv_defs_base.specs.Numbers.{pair}
 use Rattle.chv_trace.specs.Printing.{Adds}
 use Rattle.chv_trace.proofs.pieces.push_each_pair.Given as goal
 

@@ -1,8 +1,8 @@
 use Rattle.std.proofs.Common.{◌≡◌, ◌+◌, ◌≤◌, sym, ap, subst, arith, refl, None, length, vec_len}
 use Rattle.std.specs.Vec.{vec_capacity}
 use Rattle.std.proofs.lemmas.Grind.{common_steps}
-use Rattle.chv_defs.specs.LegalBank.{access_reply}
-use Rattle.chv_defs.specs.BankBook.{BankBook, with_entry, refusal_of, HasItsNumber}
+use Rattle.chv_defs_memory.specs.LegalBank.{access_reply}
+use Rattle.chv_defs_memory.specs.BankBook.{BankBook, with_entry, refusal_of, HasItsNumber}
 use Rattle.chv_bank.specs.CallerPins.{total}
 use Rattle.chv_bank.specs.declared.bank.Bank.TheInside.{Inside}
 use Rattle.chv_bank.proofs.KeptSteps.{access-kept, IsKept-roomier, seen}

@@ -1,6 +1,6 @@
 use Rattle.std.proofs.Common.{rules, subst}
-use Rattle.chv_defs.specs.LegalBank.{IsLegal}
-use Rattle.chv_defs.specs.BankBook.{BankBook}
+use Rattle.chv_defs_memory.specs.LegalBank.{IsLegal}
+use Rattle.chv_defs_memory.specs.BankBook.{BankBook}
 use Rattle.chv_bank.proofs.bank.Bank.into_history.Goals as goal
 
 pub returns-clause-legal : goal.returns-clause-legal

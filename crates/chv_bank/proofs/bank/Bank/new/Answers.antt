@@ -1,7 +1,7 @@
 use Rattle.std.proofs.Common.{◌≡◌, ◌∙◌, sym, ap, subst, arith, List, [], length}
-use Rattle.chv_defs.specs.declared.bank.BankEntry.{BankEntry}
-use Rattle.chv_defs.specs.BankState.{payload}
-use Rattle.chv_defs.specs.LegalBank.{IsLegal}
+use Rattle.chv_defs_memory.specs.declared.bank.BankEntry.{BankEntry}
+use Rattle.chv_defs_memory.specs.BankState.{payload}
+use Rattle.chv_defs_memory.specs.LegalBank.{IsLegal}
 use Rattle.chv_bank.specs.Caches.{IsStateAfter}
 use Rattle.chv_bank.specs.CallerPins.{total}
 use Rattle.chv_bank.proofs.Appended.{IsLegal-none}

@@ -1,7 +1,7 @@
 use Rattle.std.proofs.Common.{◌≡◌, ◌+◌, ◌-◌, ◌<◌, sym, ap, subst, arith, refl}
 use Rattle.std.proofs.lemmas.Grind.{common_steps}
-use Rattle.chv_defs.specs.LegalBank.{IsLegal, OwnerMay}
-use Rattle.chv_defs.specs.BankBook.{BankBook, with_entry, owner_reply}
+use Rattle.chv_defs_memory.specs.LegalBank.{IsLegal, OwnerMay}
+use Rattle.chv_defs_memory.specs.BankBook.{BankBook, with_entry, owner_reply}
 use Rattle.chv_bank.specs.declared.bank.Bank.TheInside.{Inside}
 use Rattle.chv_bank.proofs.KeptSteps.{owner-kept, owner-legal}
 use Rattle.chv_bank.proofs.bank.Bank.owner.Goals as goal

@@ -1,8 +1,8 @@
 use Rattle.std.proofs.Common.{◌≡◌, ◌∙◌, sym, subst, List}
 use Rattle.std.specs.Prelude.{IfOk}
-use Rattle.chv_defs.specs.declared.bank.PageAt.{PageAt}
-use Rattle.chv_defs.specs.PageContents.{byte_at, pages_of}
-use Rattle.chv_defs.specs.BankBook.{BankBook, pages_shown}
+use Rattle.chv_defs_memory.specs.declared.bank.PageAt.{PageAt}
+use Rattle.chv_defs_memory.specs.PageContents.{byte_at, pages_of}
+use Rattle.chv_defs_memory.specs.BankBook.{BankBook, pages_shown}
 use Rattle.chv_bank.proofs.ShownPages.{history-shown}
 use Rattle.chv_bank.proofs.bank.Bank.pages.Goals as goal
 

@@ -1,8 +1,8 @@
 use Rattle.std.proofs.Common.{◌≡◌, ◌+◌, ◌*◌, ◌≤◌, ◌∙◌, sym, ap, subst, arith, refl, false, length, vec_len}
 use Rattle.std.specs.Vec.{vec_capacity}
-use Rattle.chv_defs.specs.PageContents.{Contents}
-use Rattle.chv_defs.specs.BankState.{pins_of}
-use Rattle.chv_defs.specs.BankBook.{BankBook, passes_limit}
+use Rattle.chv_defs_memory.specs.PageContents.{Contents}
+use Rattle.chv_defs_memory.specs.BankState.{pins_of}
+use Rattle.chv_defs_memory.specs.BankBook.{BankBook, passes_limit}
 use Rattle.chv_bank.specs.Caches.{IsStateAfter}
 use Rattle.chv_bank.specs.CallerPins.{total}
 use Rattle.chv_bank.specs.declared.bank.Bank.TheInside.{Inside}

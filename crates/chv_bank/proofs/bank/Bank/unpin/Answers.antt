@@ -1,9 +1,9 @@
 use Rattle.std.proofs.Common.{◌≡◌, sym, subst, arith, refl, true}
 use Rattle.std.proofs.lemmas.Grind.{common_steps}
-use Rattle.chv_defs.specs.declared.bank.BankCall.TheVariants as call
-use Rattle.chv_defs.specs.declared.bank.BankReply.TheVariants as reply
-use Rattle.chv_defs.specs.BankState.{pins_of, has_pin}
-use Rattle.chv_defs.specs.BankBook.{BankBook, with_entry}
+use Rattle.chv_defs_memory.specs.declared.bank.BankCall.TheVariants as call
+use Rattle.chv_defs_memory.specs.declared.bank.BankReply.TheVariants as reply
+use Rattle.chv_defs_memory.specs.BankState.{pins_of, has_pin}
+use Rattle.chv_defs_memory.specs.BankBook.{BankBook, with_entry}
 use Rattle.chv_bank.specs.declared.bank.Bank.TheInside.{Inside}
 use Rattle.chv_bank.proofs.KeptSteps.{unpin-kept}
 use Rattle.chv_bank.proofs.bank.Bank.unpin.Goals as goal

@@ -1,5 +1,5 @@
 use Rattle.std.proofs.Common.{◌≡◌, sym, ap, subst, arith}
-use Rattle.chv_defs.specs.BankState.{PinOut}
+use Rattle.chv_defs_memory.specs.BankState.{PinOut}
 use Rattle.chv_bank.specs.CallerPins.{total, with_pin, AreRows}
 use Rattle.chv_bank.proofs.RowLaws.{rows-with, total-with}
 use Rattle.chv_bank.proofs.pins.Pins.push.Goals as goal

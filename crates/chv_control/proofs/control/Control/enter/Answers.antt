@@ -1,11 +1,11 @@
 use Rattle.std.proofs.Common.{◌≡◌, ◌≤◌, ◌++◌, ◌∷◌, [], ◌+◌, sym, ap, ◌∙◌, subst, refl, arith, true, false, Bool, List, None, if◌then◌else◌}
 use Rattle.std.proofs.lemmas.Grind.{common_steps}
 use Rattle.std.proofs.lemmas.List.Sums.{sum_by_push}
-use Rattle.chv_defs.specs.declared.machine.Machine.{Machine}
-use Rattle.chv_defs.specs.declared.control.ControlEntry.{ControlEntry}
-use Rattle.chv_defs.specs.ApiStep.{after, reply_to}
-use Rattle.chv_defs.specs.ControlBook.{entry_payload, full_at, payload}
-use Rattle.chv_defs.specs.ControlStep.{MayCall, Step}
+use Rattle.chv_defs_control.specs.declared.machine.Machine.{Machine}
+use Rattle.chv_defs_api.specs.declared.control.ControlEntry.{ControlEntry}
+use Rattle.chv_defs_control.specs.ApiStep.{after, reply_to}
+use Rattle.chv_defs_control.specs.ControlBook.{entry_payload, full_at, payload}
+use Rattle.chv_defs_control.specs.ControlStep.{MayCall, Step}
 use Rattle.chv_control.specs.Control.{IsKept, entry_of}
 use Rattle.chv_control.proofs.Kept.{IsKept-after}
 use Rattle.chv_control.proofs.control.Control.enter.Goals as goal

@@ -1,6 +1,6 @@
 use Rattle.std.proofs.Common.{◌≡◌, ℕ, List, subst}
-use Rattle.chv_defs.specs.BankBook.{BankBook}
-use Rattle.chv_defs.specs.LegalBank.{IsLegal}
+use Rattle.chv_defs_memory.specs.BankBook.{BankBook}
+use Rattle.chv_defs_memory.specs.LegalBank.{IsLegal}
 use Rattle.chv_guest.specs.LentBanks.{bank_at}
 use Rattle.chv_guest.proofs.ZoneBanks.{bank-known, bank-read}
 use Rattle.chv_guest.proofs.lent_banks.LentBanks.history.Goals as goal

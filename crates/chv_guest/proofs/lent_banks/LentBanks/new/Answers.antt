@@ -1,7 +1,7 @@
 use Rattle.std.proofs.Common.{◌≡◌, ℕ, List, [], ◌∷◌, ◌++◌, map, sym, ap, subst, ◌∙◌, arith}
 use Rattle.std.specs.List.{range_with_len}
 use Rattle.std.proofs.lemmas.List.FromFn.{map-range_with_len_more}
-use Rattle.chv_defs.specs.BankBook.{BankBook}
+use Rattle.chv_defs_memory.specs.BankBook.{BankBook}
 use Rattle.chv_guest.specs.LentBanks.{bank_count, fresh_at, AreAllBanks}
 use Rattle.chv_guest.proofs.ZoneBanks.{AreAllBanks-fresh}
 use Rattle.chv_guest.proofs.lent_banks.LentBanks.new.Goals as goal

@@ -1,7 +1,7 @@
 use Rattle.std.proofs.Common.{◌<◌, ℕ, List, [], sym, subst}
-use Rattle.chv_defs.specs.BankState.{banks}
-use Rattle.chv_defs.specs.BankBook.{BankBook}
-use Rattle.chv_defs.specs.Zones.{GivesBack, OtherZonesStay}
+use Rattle.chv_defs_memory.specs.BankState.{banks}
+use Rattle.chv_defs_memory.specs.BankBook.{BankBook}
+use Rattle.chv_defs_memory.specs.Zones.{GivesBack, OtherZonesStay}
 use Rattle.chv_guest.specs.LentBanks.{known_at, AreAllBanks}
 use Rattle.chv_guest.specs.Room.{keep_places}
 use Rattle.chv_guest.proofs.ZoneBanks.{AreAllBanks-changed}

@@ -1,7 +1,7 @@
 use Rattle.std.proofs.Common.{◌≡◌, ℕ, List, [], sym, ap, subst, ◌∙◌}
-use Rattle.chv_defs.specs.BankBook.{BankBook}
-use Rattle.chv_defs.specs.LegalBank.{IsLegal, OwnerMay}
-use Rattle.chv_defs.specs.Zones.{OwnerMayAsk}
+use Rattle.chv_defs_memory.specs.BankBook.{BankBook}
+use Rattle.chv_defs_memory.specs.LegalBank.{IsLegal, OwnerMay}
+use Rattle.chv_defs_memory.specs.Zones.{OwnerMayAsk}
 use Rattle.chv_guest.specs.LentBanks.{bank_at}
 use Rattle.chv_guest.proofs.ZoneBanks.{at-place, bank-known, bank-read, bank-set}
 use Rattle.chv_guest.proofs.OwnEntries.{may-from_ask}

@@ -1,6 +1,6 @@
 use Rattle.std.proofs.Common.{List, [], IfOk, sym, subst}
-use Rattle.chv_defs.specs.BankBook.{BankBook}
-use Rattle.chv_defs.specs.Zones.{MakesRoom, OtherZonesStay}
+use Rattle.chv_defs_memory.specs.BankBook.{BankBook}
+use Rattle.chv_defs_memory.specs.Zones.{MakesRoom, OtherZonesStay}
 use Rattle.chv_guest.specs.LentBanks.{known_at, AreAllBanks}
 use Rattle.chv_guest.proofs.KnownBanks.{makes_room, others-stay-room, AreAllBanks-room}
 use Rattle.chv_guest.proofs.lent_banks.LentBanksZonesUnit.room.Goals as goal

@@ -1,5 +1,5 @@
 use Rattle.std.proofs.Common.{◌≡◌, ap, ◌∙◌, sym}
-use Rattle.chv_defs.specs.PageContents.{Contents}
+use Rattle.chv_defs_memory.specs.PageContents.{Contents}
 use Rattle.chv_pages.specs.HeldPages.{visible}
 use Rattle.chv_pages.proofs.Views.{shown-are}
 use Rattle.chv_pages.proofs.pages.Pages.count.Goals as goal

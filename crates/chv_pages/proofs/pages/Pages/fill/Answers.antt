@@ -1,5 +1,5 @@
 use Rattle.std.proofs.Common.{arith, ◌≡◌, ap, ◌∙◌, sym, subst, ◌*◌, ◌+◌, ◌<◌, List, vec_len, refl}
-use Rattle.chv_defs.specs.PageContents.{Contents, Fills}
+use Rattle.chv_defs_memory.specs.PageContents.{Contents, Fills}
 use Rattle.chv_pages.specs.declared.held.Held.{Held}
 use Rattle.chv_pages.specs.HeldPages.{visible, AreHeld, put}
 use Rattle.chv_pages.proofs.Puts.{put-keeps}

@@ -1,7 +1,7 @@
 use Rattle.std.proofs.Common.{◌≡◌, ap, ◌∙◌, sym, subst, ◌*◌, List}
 use Rattle.std.specs.Prelude.{IfOk}
-use Rattle.chv_defs.specs.declared.bank.PageAt.{PageAt}
-use Rattle.chv_defs.specs.PageContents.{Contents}
+use Rattle.chv_defs_memory.specs.declared.bank.PageAt.{PageAt}
+use Rattle.chv_defs_memory.specs.PageContents.{Contents}
 use Rattle.chv_pages.specs.declared.held.Held.{Held}
 use Rattle.chv_pages.specs.HeldPages.{visible, AreHeld}
 use Rattle.chv_pages.proofs.Views.{shown-are}

@@ -1,5 +1,5 @@
 use Rattle.std.proofs.Common.{◌≡◌, ap, ◌∙◌, sym, subst, ◌+◌, ◌*◌, length}
-use Rattle.chv_defs.specs.PageContents.{Contents}
+use Rattle.chv_defs_memory.specs.PageContents.{Contents}
 use Rattle.chv_pages.specs.HeldPages.{held_at, visible}
 use Rattle.chv_pages.proofs.Views.{bytes-are}
 use Rattle.chv_pages.specs.Order.{AreInOrder}

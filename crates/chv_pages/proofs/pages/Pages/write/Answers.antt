@@ -1,7 +1,7 @@
 use Rattle.std.proofs.Common.{arith, ◌≡◌, ap, ◌∙◌, sym, subst, ◌*◌, ◌+◌, ◌≤◌, List, vec_len, refl, length}
 use Rattle.std.specs.Vec.{with_items}
 use Rattle.std.proofs.lemmas.List.{with_items_is, length-map}
-use Rattle.chv_defs.specs.PageContents.{Contents, Writes}
+use Rattle.chv_defs_memory.specs.PageContents.{Contents, Writes}
 use Rattle.chv_pages.specs.declared.held.Held.{Held}
 use Rattle.chv_pages.specs.HeldPages.{visible, AreHeld, WritesHeld}
 use Rattle.chv_pages.proofs.Views.{writes-are}

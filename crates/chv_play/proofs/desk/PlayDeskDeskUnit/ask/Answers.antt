@@ -1,4 +1,4 @@
-use Rattle.chv_defs.specs.LegalControl.{answers_by}
+use Rattle.chv_defs_control.specs.LegalControl.{answers_by}
 use Rattle.chv_play.proofs.AskLemmas.{caller_stays, is_asked, is_made, may_call}
 use Rattle.chv_play.proofs.desk.PlayDeskDeskUnit.ask.Goals as goal
 

@@ -1,5 +1,5 @@
 use Rattle.std.proofs.Common.{◌∙◌, ap}
-use Rattle.chv_defs.specs.ScenarioText.{top_word, at_space}
+use Rattle.chv_defs_scene.specs.ScenarioText.{top_word, at_space}
 use Rattle.chv_scene.proofs.ReadingLemmas.{opens_outside}
 use Rattle.chv_scene.proofs.reading.Reading.take_outside.Goals as goal
 

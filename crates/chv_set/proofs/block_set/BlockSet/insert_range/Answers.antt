@@ -1,5 +1,5 @@
 use Rattle.std.proofs.Common.{◌≡◌}
-use Rattle.chv_defs.specs.BlockSets.{with_span}
+use Rattle.chv_defs_memory.specs.BlockSets.{with_span}
 use Rattle.chv_set.proofs.SetLists.{with_span-is}
 use Rattle.chv_set.proofs.block_set.BlockSet.insert_range.Goals as goal
 

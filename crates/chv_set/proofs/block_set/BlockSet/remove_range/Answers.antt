@@ -1,5 +1,5 @@
 use Rattle.std.proofs.Common.{◌≡◌}
-use Rattle.chv_defs.specs.BlockSets.{without_span}
+use Rattle.chv_defs_memory.specs.BlockSets.{without_span}
 use Rattle.chv_set.proofs.SetLists.{without_span-is}
 use Rattle.chv_set.proofs.block_set.BlockSet.remove_range.Goals as goal
 

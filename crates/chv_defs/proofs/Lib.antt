@@ -1,3 +1,0 @@
-pub mod Components
-pub mod Leads
-pub mod ZoneLaws

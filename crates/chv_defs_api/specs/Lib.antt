@@ -1,0 +1,11 @@
+pub mod ConfigRules
+pub mod DefaultConfig
+pub mod Desks
+pub mod HttpFront
+pub mod JsonBodies
+pub mod JsonTexts
+pub mod Replies
+pub mod Requests
+pub mod Routes
+pub mod SessionBytes
+pub mod StreamCut

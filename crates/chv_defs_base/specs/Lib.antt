@@ -1,0 +1,6 @@
+pub mod Id
+pub mod Name
+pub mod Numbers
+pub mod Reasons
+pub mod Rules
+pub mod Sizes

@@ -1,0 +1,7 @@
+pub mod ApiStep
+pub mod ControlBook
+pub mod ControlStep
+pub mod LegalControl
+pub mod Machine
+pub mod OwnerCalls
+pub mod Shown

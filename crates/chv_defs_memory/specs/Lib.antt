@@ -1,0 +1,7 @@
+pub mod BankBook
+pub mod BankState
+pub mod BlockSets
+pub mod LastByte
+pub mod LegalBank
+pub mod PageContents
+pub mod Zones

@@ -1,0 +1,3 @@
+pub mod ScenarioText
+pub mod SceneText
+pub mod ScriptText

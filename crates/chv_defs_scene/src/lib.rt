@@ -1,0 +1,6 @@
+//! Scenarios and scripts, and the definitions of their texts.
+#![tactic(auto)]
+
+mod scene;
+
+pub use scene::{Asked, Line, MadeDisk, MathOp, OrderStep, Scene, Script, VcpuSection};
