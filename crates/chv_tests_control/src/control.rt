@@ -4,7 +4,8 @@ ghost use Rattle.chv_defs_control.specs.declared.machine.Life.TheVariants as lif
 
 use chv_control::{Control, Inner, Start, refusals_change_nothing};
 use chv_ctl_api::{answers_fit, refused_calls_change_nothing, states_stay_well_formed};
-use chv_defs::{BookId, ControlCall, ControlReply, Full, Row, ShownState};
+use chv_defs_api::{ControlCall, ControlReply, ShownState};
+use chv_defs_base::{BookId, Full, Row};
 use chv_store::{AnyDisk, MemDisk};
 use chv_tests_samples::{name, plain_config};
 use std::alloc::{AllocError, Global};

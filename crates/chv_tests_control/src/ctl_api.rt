@@ -4,16 +4,17 @@ ghost use Rattle.chv_defs_api.specs.Desks.{is_session_call};
 ghost use Rattle.chv_defs_control.specs.Machine.{IsWellFormed};
 
 use chv_ctl_api::api_step;
-use chv_defs::{
-    Checked, ControlCall, ControlReply, CpuConfig, DiskConfig, Life, Machine, OnShelf, Row, Rule,
-    Text, VmConfig,
+use chv_defs_api::{
+    Checked, ControlCall, ControlReply, CpuConfig, DiskConfig, OnShelf, VmConfig,
 };
+use chv_defs_base::{Row, Rule, Text};
+use chv_defs_control::{Life, Machine};
 use chv_tests_samples::{name, plain_config, plain_disk};
 use std::alloc::{AllocError, Global};
 use std::test::Fail;
 
 // The state before anything happened.
-fn nothing(alloc: Global) -> Machine
+pub fn nothing(alloc: Global) -> Machine
     ensures { IsWellFormed result }
 {
     Machine {

@@ -1,19 +1,13 @@
-//! The worked rows of the outside, disks, addresses, the control machine, sessions and printing: tests of what no contract says by itself, and of each public call once.
+//! Tests of `chv_ctl_api`, `chv_ctl_mem` and `chv_control`, the crates of the control machine: what no contract says by
+//! itself, and each public call once.
+//!
+//! `ctl_api`: calls of the API on one machine, step by step. `ctl_mem`: what a boot and a delete do to the banks of all
+//! zones (those of `chv_guest`). `control`: a full book, what a machine shows, and the laws.
 #![tactic(auto)]
 
-#[cfg(test)]
-mod addr;
 #[cfg(test)]
 mod control;
 #[cfg(test)]
 mod ctl_api;
 #[cfg(test)]
-mod io;
-#[cfg(test)]
-mod session;
-#[cfg(test)]
-mod store;
-#[cfg(test)]
-mod trace;
-#[cfg(test)]
-mod trace_banks;
+mod ctl_mem;

@@ -14,7 +14,7 @@ use std::alloc::{AllocError, Global};
 use std::test::Fail;
 
 // Makes room for two entries in a zone, and for pages.
-pub fn has_room(zones: &mut LentBanks, zone: u8, pages: u32) -> Result<bool, AllocError>
+fn has_room(zones: &mut LentBanks, zone: u8, pages: u32) -> Result<bool, AllocError>
     requires zone { zone < most_zones }
     requires fresh { known_at zones.old zone 0 ≡ record { history = []; entries = 0; pages = 0 } }
     ensures made { IfOk result (λ made. made ≡ true → known_at zones.new zone 0 ≡ record { history = []; entries = 2; pages = pages }) }

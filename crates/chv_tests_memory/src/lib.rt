@@ -1,10 +1,13 @@
-//! The worked rows of guest memory: tests of what no contract says by itself, and of each public call once.
+//! Tests of `chv_set`, `chv_pages`, `chv_bank` and `chv_guest`, the crates of guest memory: what no contract says by
+//! itself, and each public call once.
+//!
+//! `set`: small sets of blocks. `pages`: reads and writes across the edges of pages, and which pages are listed. `bank`: an
+//! unplug from its pin to the next plug, and the refusals in their order. `guest`: the banks of all zones, as their owner
+//! reaches them.
 #![tactic(auto)]
 
 #[cfg(test)]
 mod bank;
-#[cfg(test)]
-mod ctl_mem;
 #[cfg(test)]
 mod guest;
 #[cfg(test)]

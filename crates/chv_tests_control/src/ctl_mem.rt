@@ -8,7 +8,7 @@ ghost use Rattle.chv_defs_control.specs.declared.machine.Life.TheVariants as lif
 ghost use Rattle.chv_guest.specs.LentBanks.{fresh_banks, known_at};
 ghost use Rattle.std.specs.Prelude.{◌≡◌, ◌<◌, ℕ, [], ◌∷◌, true, length, IfOk};
 
-use crate::guest::has_room;
+use crate::ctl_api::nothing;
 use chv_ctl_api::api_step;
 use chv_ctl_mem::{boot_zones, wipe_all};
 use chv_defs_api::{ControlCall, CpuConfig, Hotplug, MemConfig, OnShelf, VmConfig, ZoneConfig};
@@ -19,18 +19,6 @@ use chv_guest::LentBanks;
 use chv_tests_samples::plain_config;
 use std::alloc::{AllocError, Global};
 use std::test::Fail;
-
-// The state before anything happened.
-fn nothing(alloc: Global) -> Machine
-    ensures { IsWellFormed result }
-{
-    Machine {
-        life: Life::None,
-        config: None,
-        ended: Row::empty(alloc),
-        stopped: false,
-    }
-}
 
 // A zone of so many bytes, which does not grow.
 fn zone(alloc: Global, id: &str, size: u64) -> Result<ZoneConfig, AllocError> {
@@ -140,6 +128,16 @@ fn wipes(machine: &Machine, zones: &mut LentBanks, has_second: bool) -> Result<b
     )
 }
 
+// Makes room for two entries in a zone.
+fn has_room(zones: &mut LentBanks, zone: u8) -> Result<bool, AllocError>
+    requires zone { zone < most_zones }
+    requires fresh { known_at zones.old zone 0 ≡ record { history = []; entries = 0; pages = 0 } }
+    ensures made { IfOk result (λ made. made ≡ true → known_at zones.new zone 0 ≡ record { history = []; entries = 2; pages = 0 }) }
+    ensures others { OtherZonesStay (known_at zones.old) (known_at zones.new) zone }
+{
+    Ok(zones.room((), zone, 2, 0)?.is_ok())
+}
+
 // Freezes a bank, where a place is left for its Thaw.
 fn freeze(zones: &mut LentBanks, zone: u8)
     requires zone { zone < most_zones }
@@ -163,7 +161,7 @@ fn freeze_two(zones: &mut LentBanks) -> Result<bool, AllocError>
       pages = 0;
     }) }
 {
-    if !has_room(zones, 0, 0)? || !has_room(zones, 1, 0)? {
+    if !has_room(zones, 0)? || !has_room(zones, 1)? {
         return Ok(false);
     }
     freeze(zones, 0);

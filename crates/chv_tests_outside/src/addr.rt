@@ -4,7 +4,8 @@ ghost use Rattle.chv_addr.specs.AddressMap.{is_within_limits};
 
 use chv_addr::{AddrMap, Place, Region, checked_zones_fit};
 use chv_config::check;
-use chv_defs::{Checked, Hotplug, Row, Text, VmConfig, ZoneConfig};
+use chv_defs_api::{Checked, Hotplug, VmConfig, ZoneConfig};
+use chv_defs_base::{Row, Text};
 use chv_tests_samples::plain_config;
 use std::alloc::{AllocError, Global};
 use std::test::Fail;

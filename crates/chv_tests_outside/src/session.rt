@@ -2,9 +2,8 @@ ghost use Rattle.std.specs.Prelude.{◌≡◌, ◌++◌, ◌∷◌, [], true, fa
 ghost use Rattle.chv_defs_api.specs.Desks.{IsSession};
 ghost use Rattle.chv_defs_api.specs.Desks.{can_have, is_held};
 
-use chv_defs::{
-    Bytes, ControlCall, ControlReply, Desk, SessionEnd, SessionLog, Stopped, beside, copy_of,
-};
+use chv_defs_api::{ControlCall, ControlReply, Desk, SessionEnd, SessionLog, Stopped};
+use chv_defs_base::{Bytes, beside, copy_of};
 use chv_io::{Link, MemLink};
 use chv_session::{Next, Session};
 use chv_tests_samples::numbers;

@@ -46,8 +46,8 @@ fn added(alloc: Global, now: &Checked, disk: &str, names: &Row<Name>) -> io::Res
     allocated(answer)
 }
 
-// Names with commas between them; `-` is none.
-fn names_of(alloc: Global, words: &str) -> io::Result<Row<Name>> {
+/// Names with commas between them; `-` is none.
+pub fn names_of(alloc: Global, words: &str) -> io::Result<Row<Name>> {
     let mut names = Row::empty(alloc);
     for word in words.split(',') {
         if word != "-" {

@@ -1,7 +1,7 @@
 ghost use Rattle.std.specs.Prelude.{◌≡◌, All, IfOk, None};
 ghost use Rattle.chv_io.specs.MemListener.{IsFresh};
 
-use chv_defs::{Bytes, Row};
+use chv_defs_base::{Bytes, Row};
 use chv_io::{
     Failed, Link, Listener, MemLink, MemListener, MemSink, MemSource, Sink, Source, StdSink,
     StdSource, read_from, write_to,

@@ -1,6 +1,7 @@
-// The lines of calls and replies that no scenario has yet, worked out from their format by hand, and outputs that fail.
+// Traces as they are printed (`chv_trace`): lines of calls and replies that no scenario has yet.
 ghost use Rattle.std.specs.Prelude.{◌≡◌, []};
 
+use crate::lines::with_lines;
 use crate::trace_banks::push_banks;
 use chv_defs::{
     BookId, BusyAt, Bytes, ContextNote, ControlCall, ControlEntry, ControlReply, CpuNote,
@@ -8,10 +9,9 @@ use chv_defs::{
     SessionEnd, SessionLog, SessionTrace, SliceEnd, Text, Trace,
 };
 use chv_io::MemSink;
-use chv_tests_samples::numbers;
-use chv_trace::{PrintError, print};
+use chv_trace::print;
 use std::alloc::{AllocError, Global};
-use std::test::Fail;
+use std::io;
 
 const BANK: BookId = BookId::Bank { zone: 1, bank: 2 };
 
@@ -63,10 +63,6 @@ const BUSY: MemAnswer = MemAnswer {
         caller: 18,
     }),
 };
-
-/// The text of the entries below, of the two banks and of a session that took two bytes and was replied none.
-const TEXT: &str =
-    "trace 1\nscene 0\ncontrol 11\n1 take vcpu 3 -> done\n1 hand slot 2 7 8 1 2 512 1024 end sealed 1.2 5 9 order c 1.2 -> done\n1 hand slot 2 7 8 1 2 512 1024 end broken RingClosed 0x1000 order - -> done\n1 out 17 1 0xcf8 0x80 -> done\n1 mem 2 1 0x100000000 4 -> done\n1 ping -> rule BadImage 216\n1 ping -> taken cpu 1 4 1000 1 0xa 0xa 0xa 0xa 0xa 0xa 0xa 0xa 0xa 0xa 0xa 0xa 0xa 0xa 0xa 0xa\n1 ping -> value 0x1af4\n1 ping -> answer 1 2 7 18\n1 ping -> added {\"bdf\":\"0000:00:02.0\",\"id\":\"d1\"}\n1 ping -> restored c00f\nbank 0 0 9\n0 shape 256 -> done\n1 write 0 4096 ab -> done\n1 read 0 4096 8 -> got ab00000000000000\n18 pin 3 5 2 -> pinned\n0 seal 5 1 -> busy 5 18\n18 unpin 3 -> done\n1 read 512 0 1 -> fault 512\n0 show -> pages 1\n0 wipe -> done\nbank 1 2 7\n0 open 512 4 -> done\n0 fill 513 511 c00f -> done\n0 seal 512 2 -> sealed\n0 unseal 512 1 -> done\n0 close 513 1 -> closed\n0 freeze -> done\n0 thaw -> done\nsession 1 ended\nask 4747\nreply -\nend\n";
 
 fn push_call(control: &mut Row<ControlEntry>, call: ControlCall) -> Result<(), AllocError> {
     control.push(ControlEntry {
@@ -143,14 +139,10 @@ fn push_entries(alloc: Global, control: &mut Row<ControlEntry>) -> Result<(), Al
     push_restored(alloc, control)
 }
 
-// A session that took so many bytes, each a G, and was replied none.
-fn push_session(
-    alloc: Global,
-    sessions: &mut Row<SessionTrace>,
-    asked: usize,
-) -> Result<(), AllocError> {
+// A session that took two bytes and was replied none.
+fn push_session(alloc: Global, sessions: &mut Row<SessionTrace>) -> Result<(), AllocError> {
     let log = SessionLog {
-        asked: Bytes::new(vec![in alloc; b'G'; asked]?),
+        asked: Bytes::of(alloc, b"GG")?,
         replied: Bytes::new(Vec::new(alloc)),
         end: SessionEnd::Ended,
     };
@@ -171,80 +163,38 @@ fn no_trace(alloc: Global) -> Trace
     }
 }
 
-// The entries above, the two banks, and a session that took two bytes.
+// The entries above, two banks, and a session.
 fn fill_all(alloc: Global, trace: &mut Trace) -> Result<(), AllocError>
     ensures disks { trace.new.disks ≡ trace.old.disks }
     ensures vcpus { trace.new.vcpus ≡ trace.old.vcpus }
 {
     push_entries(alloc, &mut trace.control)?;
     push_banks(alloc, &mut trace.banks)?;
-    push_session(alloc, &mut trace.sessions, 2)
+    push_session(alloc, &mut trace.sessions)
 }
 
-// A session that made a ping and took so many bytes.
-fn fill_ping(alloc: Global, trace: &mut Trace, asked: usize) -> Result<(), AllocError>
-    ensures disks { trace.new.disks ≡ trace.old.disks }
-    ensures vcpus { trace.new.vcpus ≡ trace.old.vcpus }
-{
-    push_call(&mut trace.control, ControlCall::Ping)?;
-    push_call(&mut trace.control, ControlCall::Bye)?;
-    push_session(alloc, &mut trace.sessions, asked)
-}
-
-// Whether a trace is printed so.
-fn prints(alloc: Global, trace: &Trace, text: &str) -> Result<bool, AllocError>
+// The lines of a trace.
+fn printed(alloc: Global, trace: &Trace) -> io::Result<String>
     requires disks { trace.now.disks ≡ [] }
     requires vcpus { trace.now.vcpus ≡ [] }
 {
-    let mut out = MemSink::new(alloc, 2000, numbers(alloc, &[])?)?;
-    Ok(print(alloc, trace, &mut out).is_ok() && out.written() == text.as_bytes())
+    let mut out = MemSink::new(alloc, 2000, Row::empty(alloc))?;
+    if print(alloc, trace, &mut out).is_err() {
+        return Err(io::Error::other("the trace of the case is not printed"));
+    }
+    with_lines(alloc, "printed", out.written())
 }
 
-// Whether the trace of all these is printed so.
-fn is_printed(alloc: Global, text: &str) -> Result<bool, AllocError> {
+/// `trace guests`: how the trace is printed in which guests and queues make each call, and banks and sessions stand beside
+/// them.
+pub fn trace(alloc: Global, name: &str) -> io::Result<String> {
+    if name != "guests" {
+        return Err(io::Error::other("the case names no trace"));
+    }
     let mut trace = no_trace(alloc);
     let filled = fill_all(alloc, &mut trace);
-    let printed = prints(alloc, &trace, text);
+    let printed = printed(alloc, &trace);
     drop(trace);
     filled?;
     printed
-}
-
-/// How printing ends, and how many bytes are written.
-type Printed = (Result<(), PrintError>, usize);
-
-// What comes of printing a trace where the call of the output with this number fails.
-fn printed(alloc: Global, trace: &Trace, failing: u64) -> Result<Printed, AllocError>
-    requires disks { trace.now.disks ≡ [] }
-    requires vcpus { trace.now.vcpus ≡ [] }
-{
-    let mut out = MemSink::new(alloc, 200_000, numbers(alloc, &[failing])?)?;
-    Ok((print(alloc, trace, &mut out), out.written().len()))
-}
-
-// What comes of the trace of a session that made a ping and took so many bytes.
-fn ping(alloc: Global, asked: usize, failing: u64) -> Result<Printed, AllocError> {
-    let mut trace = no_trace(alloc);
-    let filled = fill_ping(alloc, &mut trace, asked);
-    let printed = printed(alloc, &trace, failing);
-    drop(trace);
-    filled?;
-    printed
-}
-
-// Whether an output that fails has a first part.
-fn breaks_off(alloc: Global) -> Result<bool, AllocError> {
-    // 75 bytes stand before the pairs, so that the first piece has 32,731 of these.
-    Ok(
-        ping(alloc, 2, 1)? == (Err(PrintError::Failed), 0)
-            && ping(alloc, 40_000, 2)? == (Err(PrintError::Failed), 65_537)
-            && ping(alloc, 40_000, 3)? == (Ok(()), 80_088),
-    )
-}
-
-#[test]
-fn traces(rt: HostRuntime) -> Result<(), Fail> {
-    assert!(rt; is_printed(rt.alloc(), TEXT)?);
-    assert!(rt; breaks_off(rt.alloc())?);
-    Ok(())
 }
