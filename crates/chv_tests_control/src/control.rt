@@ -8,6 +8,7 @@ use chv_defs_api::{ControlCall, ControlReply, ShownState};
 use chv_defs_base::{BookId, Full, Row};
 use chv_store::{AnyDisk, MemDisk};
 use chv_tests_samples::{name, plain_config};
+use chv_tests_steps::step;
 use std::alloc::{AllocError, Global};
 use std::test::Fail;
 
@@ -44,13 +45,13 @@ fn stops(control: &mut Control<MemDisk>) -> Result<bool, AllocError> {
     Ok(matches!(answer, Ok(ControlReply::Done)))
 }
 
-fn fills_up(control: &mut Control<MemDisk>) -> Result<bool, AllocError> {
+fn fill_up(control: &mut Control<MemDisk>) -> Result<(), Fail> {
     for _ in 0..1_048_575 {
-        if ping(control)?.is_some() {
-            return Ok(false);
-        }
+        step("a ping while there is room", ping(control)?.is_none())?;
     }
-    Ok(ping(control)? == Some(FULL) && stops(control)? && control.history().len() == 1_048_576)
+    step("a ping with one place left", ping(control)? == Some(FULL))?;
+    step("a stop in the last place", stops(control)?)?;
+    step("all entries", control.history().len() == 1_048_576)
 }
 
 // Whether a control value falls into so many entries, two sessions and one disk.
@@ -70,8 +71,11 @@ fn laws() {
 #[test]
 fn a_full_book_keeps_a_place_for_the_stop(rt: HostRuntime) -> Result<(), Fail> {
     let mut control = fresh(rt.alloc())?;
-    assert!(rt; fills_up(&mut control)?);
-    assert!(rt; falls_into(control, 1_048_576));
+    fill_up(&mut control)?;
+    assert!(rt;
+        falls_into(control, 1_048_576),
+        "the parts: entries, sessions and disks"
+    );
     laws();
     Ok(())
 }
@@ -100,16 +104,17 @@ fn shows(alloc: Global, control: &Control<MemDisk>) -> Result<bool, AllocError>
     Ok(is_so)
 }
 
-// Whether a machine that was created is shown, and that asks for no entry.
-fn creates_and_shows(alloc: Global, control: &mut Control<MemDisk>) -> Result<bool, AllocError> {
-    Ok(creates(alloc, control)? && shows(alloc, control)? && control.history().len() == 1)
+// A machine that was created is shown, and that asks for no entry.
+fn create_and_show(alloc: Global, control: &mut Control<MemDisk>) -> Result<(), Fail> {
+    step("create", creates(alloc, control)?)?;
+    step("what is shown", shows(alloc, control)?)?;
+    step("one entry", control.history().len() == 1)
 }
 
 #[test]
 fn a_machine_is_shown(rt: HostRuntime) -> Result<(), Fail> {
     let mut control = fresh(rt.alloc())?;
-    let came = creates_and_shows(rt.alloc(), &mut control);
+    let came = create_and_show(rt.alloc(), &mut control);
     drop(control);
-    assert!(rt; came?);
-    Ok(())
+    came
 }

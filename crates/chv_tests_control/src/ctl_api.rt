@@ -4,12 +4,11 @@ ghost use Rattle.chv_defs_api.specs.Desks.{is_session_call};
 ghost use Rattle.chv_defs_control.specs.Machine.{IsWellFormed};
 
 use chv_ctl_api::api_step;
-use chv_defs_api::{
-    Checked, ControlCall, ControlReply, CpuConfig, DiskConfig, OnShelf, VmConfig,
-};
+use chv_defs_api::{Checked, ControlCall, ControlReply, CpuConfig, DiskConfig, OnShelf, VmConfig};
 use chv_defs_base::{Row, Rule, Text};
 use chv_defs_control::{Life, Machine};
 use chv_tests_samples::{name, plain_config, plain_disk};
+use chv_tests_steps::step;
 use std::alloc::{AllocError, Global};
 use std::test::Fail;
 
@@ -108,64 +107,66 @@ fn leaves(
     Ok(is_so && has(alloc, machine, disks))
 }
 
-// Whether a machine is created, but not again, and a disk is added, and removed by the id that it got.
-fn changes(alloc: Global, machine: &mut Machine, shelf: &Row<OnShelf>) -> Result<bool, AllocError>
+// A machine is created, but not again, and a disk is added, and removed by the id that it got.
+fn change(alloc: Global, machine: &mut Machine, shelf: &Row<OnShelf>) -> Result<(), Fail>
     requires { IsWellFormed machine.old }
     ensures { IsWellFormed machine.new }
 {
     let create = ControlCall::Create(plain_config(alloc));
-    if !leaves(alloc, machine, shelf, create, None, Some(0))? {
-        return Ok(false);
-    }
+    step(
+        "create",
+        leaves(alloc, machine, shelf, create, None, Some(0))?,
+    )?;
     let again = ControlCall::Create(with_two_vcpus(alloc));
-    if !leaves(
-        alloc,
-        machine,
-        shelf,
-        again,
-        Some(Rule::AlreadyCreated),
-        Some(0),
-    )? {
-        return Ok(false);
-    }
+    let rule = Some(Rule::AlreadyCreated);
+    step(
+        "create again",
+        leaves(alloc, machine, shelf, again, rule, Some(0))?,
+    )?;
     let add = ControlCall::AddDisk(plain_disk(alloc, "/images/a")?);
-    if !leaves(alloc, machine, shelf, add, None, Some(1))? {
-        return Ok(false);
-    }
+    step(
+        "add a disk",
+        leaves(alloc, machine, shelf, add, None, Some(1))?,
+    )?;
     let remove = ControlCall::Remove(Text::of(alloc, "_disk0")?);
-    leaves(alloc, machine, shelf, remove, None, Some(0))
+    step(
+        "remove the disk",
+        leaves(alloc, machine, shelf, remove, None, Some(0))?,
+    )
 }
 
-// Whether a Stop is done, and keeps the machine.
-fn stops(alloc: Global, machine: &mut Machine, shelf: &Row<OnShelf>) -> Result<bool, AllocError>
+// A Stop is done, and keeps the machine.
+fn stop(alloc: Global, machine: &mut Machine, shelf: &Row<OnShelf>) -> Result<(), Fail>
     requires { IsWellFormed machine.old }
 {
-    if machine.stopped {
-        return Ok(false);
-    }
+    step("no stop before", !machine.stopped)?;
     let reply = api_step(alloc, machine, 0, shelf, &ControlCall::Stop)?;
     let is_done = is_answer(&reply, None);
     drop(reply);
-    Ok(is_done && machine.stopped && has(alloc, machine, Some(0)))
+    step("stop: the reply", is_done)?;
+    step("stop: stopped", machine.stopped)?;
+    step("stop: the machine is kept", has(alloc, machine, Some(0)))
 }
 
-// Whether the calls of session 2, and then a Stop, are answered as they must be.
-fn steps(alloc: Global, machine: &mut Machine, shelf: &Row<OnShelf>) -> Result<bool, AllocError>
+// The calls of session 2, and then a Stop.
+fn steps(alloc: Global, machine: &mut Machine, shelf: &Row<OnShelf>) -> Result<(), Fail>
     requires { IsWellFormed machine.old }
 {
-    Ok(
-        leaves(
-            alloc,
-            machine,
-            shelf,
-            ControlCall::Info,
-            Some(Rule::NotCreated),
-            None,
-        )? && changes(alloc, machine, shelf)?
-            && leaves(alloc, machine, shelf, ControlCall::Bye, None, Some(0))?
-            && machine.ended.as_slice() == [2].as_slice()
-            && stops(alloc, machine, shelf)?,
-    )
+    let rule = Some(Rule::NotCreated);
+    step(
+        "info before a machine",
+        leaves(alloc, machine, shelf, ControlCall::Info, rule, None)?,
+    )?;
+    change(alloc, machine, shelf)?;
+    step(
+        "bye",
+        leaves(alloc, machine, shelf, ControlCall::Bye, None, Some(0))?,
+    )?;
+    step(
+        "bye: the session has ended",
+        machine.ended.as_slice() == [2].as_slice(),
+    )?;
+    stop(alloc, machine, shelf)
 }
 
 #[test]
@@ -175,6 +176,5 @@ fn steps_of_one_machine(rt: HostRuntime) -> Result<(), Fail> {
     let came = steps(rt.alloc(), &mut machine, &shelf);
     drop(machine);
     drop(shelf);
-    assert!(rt; came?);
-    Ok(())
+    came
 }

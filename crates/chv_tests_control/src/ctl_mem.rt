@@ -17,6 +17,7 @@ use chv_defs_control::{Life, Machine};
 use chv_defs_memory::{BankCall, BankEntry, BankReply, Zones};
 use chv_guest::LentBanks;
 use chv_tests_samples::plain_config;
+use chv_tests_steps::step;
 use std::alloc::{AllocError, Global};
 use std::test::Fail;
 
@@ -96,35 +97,39 @@ fn is_wiped(history: &[BankEntry], is_in_effect: bool) -> bool {
 }
 
 // A boot opens the blocks of the zones in effect, and leaves the banks of other zones.
-fn boots(
-    machine: &Machine,
-    zones: &mut LentBanks,
-    first: u32,
-    second: u32,
-) -> Result<bool, AllocError>
+fn boot(machine: &Machine, zones: &mut LentBanks, first: u32, second: u32) -> Result<(), Fail>
     requires machine { IsWellFormed machine.now }
     requires zones { zones.old ≡ fresh_banks }
 {
-    let is_done = boot_zones((), machine, zones)?.is_ok();
-    Ok(
-        is_done
-            && is_shaped(zones.history(0, 0), first)
-            && is_shaped(zones.history(1, 0), second)
-            && zones.history(2, 0).is_empty(),
+    step("boot: done", boot_zones((), machine, zones)?.is_ok())?;
+    step(
+        "boot: the first zone",
+        is_shaped(zones.history(0, 0), first),
+    )?;
+    step(
+        "boot: the second zone",
+        is_shaped(zones.history(1, 0), second),
+    )?;
+    step(
+        "boot: no entry in the third zone",
+        zones.history(2, 0).is_empty(),
     )
 }
 
 // A wipe, as a machine that was created and never booted is deleted, is one entry there too.
-fn wipes(machine: &Machine, zones: &mut LentBanks, has_second: bool) -> Result<bool, AllocError>
+fn wipe(machine: &Machine, zones: &mut LentBanks, has_second: bool) -> Result<(), Fail>
     requires machine { IsWellFormed machine.now }
     requires zones { zones.old ≡ fresh_banks }
 {
-    let is_done = wipe_all((), machine, zones)?.is_ok();
-    Ok(
-        is_done
-            && is_wiped(zones.history(0, 0), true)
-            && is_wiped(zones.history(1, 0), has_second)
-            && zones.history(2, 0).is_empty(),
+    step("wipe: done", wipe_all((), machine, zones)?.is_ok())?;
+    step("wipe: the first zone", is_wiped(zones.history(0, 0), true))?;
+    step(
+        "wipe: the second zone",
+        is_wiped(zones.history(1, 0), has_second),
+    )?;
+    step(
+        "wipe: no entry in the third zone",
+        zones.history(2, 0).is_empty(),
     )
 }
 
@@ -195,37 +200,37 @@ fn is_thawed(history: &[BankEntry]) -> bool {
 }
 
 // Where a machine of two zones is paused, a wipe thaws their banks before.
-fn wipes_paused(machine: &Machine, zones: &mut LentBanks) -> Result<bool, AllocError>
+fn wipe_paused(machine: &Machine, zones: &mut LentBanks) -> Result<(), Fail>
     requires checked { HasChecked machine.now.config }
     requires paused { machine.now.life ≡ life.Paused }
     requires zones { zones.old ≡ fresh_banks }
 {
-    if !has_two_zones(machine) || !freeze_two(zones)? {
-        return Ok(false);
-    }
-    let is_done = wipe_all((), machine, zones)?.is_ok();
-    Ok(
-        is_done
-            && is_thawed(zones.history(0, 0))
-            && is_thawed(zones.history(1, 0))
-            && zones.history(2, 0).is_empty(),
+    step("paused: two zones", has_two_zones(machine))?;
+    step("paused: freeze", freeze_two(zones)?)?;
+    step("paused: done", wipe_all((), machine, zones)?.is_ok())?;
+    step("paused: the first zone", is_thawed(zones.history(0, 0)))?;
+    step("paused: the second zone", is_thawed(zones.history(1, 0)))?;
+    step(
+        "paused: no entry in the third zone",
+        zones.history(2, 0).is_empty(),
     )
 }
 
 // A boot and a wipe of the plain machine, whose one zone has 512 MiB, each over one of these banks.
-fn one_comes(
+fn play_one(
     alloc: Global,
     machine: &mut Machine,
     first: &mut LentBanks,
     second: &mut LentBanks,
-) -> Result<bool, AllocError>
+) -> Result<(), Fail>
     requires machine { IsWellFormed machine.old }
     requires first { first.old ≡ fresh_banks }
     requires second { second.old ≡ fresh_banks }
 {
     let shelf = Row::empty(alloc);
     create(alloc, machine, &shelf, plain_config(alloc))?;
-    Ok(boots(machine, first, 256, 0)? && wipes(machine, second, false)?)
+    boot(machine, first, 256, 0)?;
+    wipe(machine, second, false)
 }
 
 #[test]
@@ -233,10 +238,9 @@ fn memory_at_a_boot_and_at_a_wipe(rt: HostRuntime) -> Result<(), Fail> {
     let mut first = LentBanks::new(rt.alloc())?;
     let mut second = LentBanks::new(rt.alloc())?;
     let mut machine = nothing(rt.alloc());
-    let came = one_comes(rt.alloc(), &mut machine, &mut first, &mut second);
+    let came = play_one(rt.alloc(), &mut machine, &mut first, &mut second);
     drop(machine);
-    assert!(rt; came?);
-    Ok(())
+    came
 }
 
 // Creates a machine of two zones.
@@ -250,24 +254,23 @@ fn create_two(alloc: Global, machine: &mut Machine) -> Result<(), AllocError>
 }
 
 // A boot and a wipe of a machine of two zones, and a wipe of it while it is paused, each over one of these banks.
-fn two_come(
+fn play_two(
     alloc: Global,
     machine: &mut Machine,
     first: &mut LentBanks,
     second: &mut LentBanks,
     third: &mut LentBanks,
-) -> Result<bool, AllocError>
+) -> Result<(), Fail>
     requires machine { IsWellFormed machine.old }
     requires first { first.old ≡ fresh_banks }
     requires second { second.old ≡ fresh_banks }
     requires third { third.old ≡ fresh_banks }
 {
     create_two(alloc, machine)?;
-    if !boots(machine, first, 2, 3)? || !wipes(machine, second, true)? {
-        return Ok(false);
-    }
+    boot(machine, first, 2, 3)?;
+    wipe(machine, second, true)?;
     machine.life = Life::Paused;
-    wipes_paused(machine, third)
+    wipe_paused(machine, third)
 }
 
 #[test]
@@ -276,7 +279,7 @@ fn memory_of_two_zones(rt: HostRuntime) -> Result<(), Fail> {
     let mut second = LentBanks::new(rt.alloc())?;
     let mut third = LentBanks::new(rt.alloc())?;
     let mut machine = nothing(rt.alloc());
-    let came = two_come(
+    let came = play_two(
         rt.alloc(),
         &mut machine,
         &mut first,
@@ -284,6 +287,5 @@ fn memory_of_two_zones(rt: HostRuntime) -> Result<(), Fail> {
         &mut third,
     );
     drop(machine);
-    assert!(rt; came?);
-    Ok(())
+    came
 }

@@ -10,6 +10,7 @@ use chv_bank::Bank;
 use chv_defs_base::{BookId, Bytes, Full};
 use chv_defs_memory::{BankCall, BankEntry, BankReply, Refusal, Zones};
 use chv_guest::LentBanks;
+use chv_tests_steps::step;
 use std::alloc::{AllocError, Global};
 use std::test::Fail;
 
@@ -49,21 +50,26 @@ fn is_shape(history: &[BankEntry]) -> bool {
 }
 
 // A bank is shaped, and no other zone's. Then it is wiped.
-fn wiped(zones: &mut LentBanks) -> Result<bool, AllocError>
+fn wiped(zones: &mut LentBanks) -> Result<(), Fail>
     requires { zones.old ≡ fresh_banks }
 {
-    Ok(
-        has_room(zones, 0, 0)?
-            && shape(zones, 0)
-            && is_shape(zones.history(0, 0))
-            && zones.history(1, 0).is_empty()
-            && zones.owner((), 0, 0, &BankCall::Wipe) == BankReply::Done
-            && zones.history(0, 0).len() == 2,
-    )
+    step("wipe: room", has_room(zones, 0, 0)?)?;
+    step("wipe: shape", shape(zones, 0))?;
+    step(
+        "wipe: the entry of the shape",
+        is_shape(zones.history(0, 0)),
+    )?;
+    step(
+        "wipe: no entry in another zone",
+        zones.history(1, 0).is_empty(),
+    )?;
+    let reply = zones.owner((), 0, 0, &BankCall::Wipe);
+    step("wipe: the reply", reply == BankReply::Done)?;
+    step("wipe: its entry", zones.history(0, 0).len() == 2)
 }
 
 // No room beyond the limit, which leaves room for one entry.
-fn filled_up(zones: &mut LentBanks) -> Result<bool, AllocError>
+fn filled_up(zones: &mut LentBanks) -> Result<(), Fail>
     requires { zones.old ≡ fresh_banks }
 {
     let full = Refusal::Full(Full {
@@ -74,9 +80,10 @@ fn filled_up(zones: &mut LentBanks) -> Result<bool, AllocError>
     let is_full = zones
         .room((), 0, 1_048_577, 0)?
         .is_err_and(|why| why == full);
-    let has_room = zones.room((), 0, 1, 0)?.is_ok();
+    step("room: one entry too many", is_full)?;
+    step("room: one entry", zones.room((), 0, 1, 0)?.is_ok())?;
     zones.give_back((), 0, 0);
-    Ok(is_full && has_room && zones.pages((), 0, 0)?.is_empty())
+    step("room: no pages", zones.pages((), 0, 0)?.is_empty())
 }
 
 // A page that is zero but for its eighth byte.
@@ -115,15 +122,16 @@ fn lists_five(zones: &mut LentBanks) -> Result<bool, AllocError> {
 }
 
 // A page is filled in the last zone and listed there, and in no other.
-fn filled(alloc: Global, zones: &mut LentBanks) -> Result<bool, AllocError>
+fn filled(alloc: Global, zones: &mut LentBanks) -> Result<(), Fail>
     requires { zones.old ≡ fresh_banks }
 {
-    Ok(
-        has_room(zones, 7, 1)?
-            && shape(zones, 7)
-            && fill(zones, page_of_five(alloc)?)
-            && lists_five(zones)?
-            && zones.pages((), 0, 0)?.is_empty(),
+    step("fill: room", has_room(zones, 7, 1)?)?;
+    step("fill: shape", shape(zones, 7))?;
+    step("fill: the reply", fill(zones, page_of_five(alloc)?))?;
+    step("fill: the page is listed", lists_five(zones)?)?;
+    step(
+        "fill: no page in another zone",
+        zones.pages((), 0, 0)?.is_empty(),
     )
 }
 
@@ -140,13 +148,16 @@ fn is_shaped(banks: Vec<Bank>) -> bool {
 #[test]
 fn zones(rt: HostRuntime) -> Result<(), Fail> {
     let mut first = LentBanks::new(rt.alloc())?;
-    assert!(rt; wiped(&mut first)?);
+    wiped(&mut first)?;
     let mut second = LentBanks::new(rt.alloc())?;
-    assert!(rt; filled_up(&mut second)?);
+    filled_up(&mut second)?;
     let mut third = LentBanks::new(rt.alloc())?;
-    assert!(rt; filled(rt.alloc(), &mut third)?);
+    filled(rt.alloc(), &mut third)?;
     let mut fourth = LentBanks::new(rt.alloc())?;
-    assert!(rt; has_room(&mut fourth, 0, 0)? && shape(&mut fourth, 0));
-    assert!(rt; is_shaped(fourth.into_banks()));
+    step(
+        "banks: room and shape",
+        has_room(&mut fourth, 0, 0)? && shape(&mut fourth, 0),
+    )?;
+    step("banks: given up", is_shaped(fourth.into_banks()))?;
     Ok(())
 }

@@ -3,6 +3,7 @@ ghost use Rattle.std.specs.Prelude.{◌≡◌, ◌+◌, ◌<◌, ◌≤◌, IfOk
 
 use chv_defs_memory::PageAt;
 use chv_pages::Pages;
+use chv_tests_steps::step;
 use std::alloc::{AllocError, Global};
 use std::test::Fail;
 
@@ -58,18 +59,27 @@ fn write(memory: &mut Pages) -> Result<(), AllocError>
 
 const WRITTEN: [Page; 3] = [(0, 511, 4_095, 3), (1, 0, 4_095, 1), (1, 1, 0, 2)];
 
-fn is_written(memory: &mut Pages) -> Result<bool, AllocError>
+fn writes(memory: &mut Pages) -> Result<(), Fail>
     requires { memory.old.blocks ≡ 2 }
 {
-    let was_zero = has_four(memory, 1, 2_097_148, [0, 0, 0, 0]);
+    step(
+        "write: zero before",
+        has_four(memory, 1, 2_097_148, [0, 0, 0, 0]),
+    )?;
     write(memory)?;
-    let is_there = has_four(memory, 1, 4_094, [0, 1, 2, 0]) && lists(memory, &WRITTEN)?;
+    step(
+        "write: across two pages",
+        has_four(memory, 1, 4_094, [0, 1, 2, 0]),
+    )?;
+    step("write: the pages that are listed", lists(memory, &WRITTEN)?)?;
     memory.clear_block(1);
-    Ok(
-        was_zero
-            && is_there
-            && has_four(memory, 1, 4_094, [0, 0, 0, 0])
-            && memory.list()?.len() == 1,
+    step(
+        "clear: zero again",
+        has_four(memory, 1, 4_094, [0, 0, 0, 0]),
+    )?;
+    step(
+        "clear: the page of the other block",
+        memory.list()?.len() == 1,
     )
 }
 
@@ -85,20 +95,23 @@ fn fill(alloc: Global, memory: &mut Pages) -> Result<(), AllocError>
     Ok(())
 }
 
-fn is_filled(alloc: Global, memory: &mut Pages) -> Result<bool, AllocError>
+fn fills(alloc: Global, memory: &mut Pages) -> Result<(), Fail>
     requires { memory.old.blocks ≡ 1 }
 {
     fill(alloc, memory)?;
-    let is_there = has_four(memory, 0, 12_295, [5, 0, 0, 0]);
+    step("fill: the bytes", has_four(memory, 0, 12_295, [5, 0, 0, 0]))?;
     memory.release();
-    Ok(is_there && lists(memory, &[(0, 3, 7, 5)])?)
+    step(
+        "fill: the page that is listed",
+        lists(memory, &[(0, 3, 7, 5)])?,
+    )
 }
 
 #[test]
 fn pages(rt: HostRuntime) -> Result<(), Fail> {
     let mut memory = Pages::new(rt.alloc(), 2)?;
-    assert!(rt; is_written(&mut memory)?);
+    writes(&mut memory)?;
     let mut memory = Pages::new(rt.alloc(), 1)?;
-    assert!(rt; is_filled(rt.alloc(), &mut memory)?);
+    fills(rt.alloc(), &mut memory)?;
     Ok(())
 }

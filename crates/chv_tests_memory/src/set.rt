@@ -3,6 +3,7 @@ ghost use Rattle.std.specs.Prelude.{◌+◌, ◌<◌, ◌≤◌};
 
 use chv_defs_memory::Span;
 use chv_set::BlockSet;
+use chv_tests_steps::step;
 use std::alloc::{AllocError, Global};
 use std::test::Fail;
 
@@ -50,10 +51,11 @@ fn is_empty(alloc: Global) -> Result<bool, AllocError> {
 #[test]
 fn sets(rt: HostRuntime) -> Result<(), Fail> {
     let alloc = rt.alloc();
-    assert!(rt; is_alone(alloc, 0, 1)? && is_alone(alloc, 63, 1)? && is_alone(alloc, 64, 1)?);
-    assert!(rt; is_alone(alloc, 65, 1)? && is_alone(alloc, 32_767, 1)?);
-    // A run across the edge of a word.
-    assert!(rt; is_alone(alloc, 63, 3)?);
-    assert!(rt; is_empty(alloc)?);
-    Ok(())
+    step("block 0", is_alone(alloc, 0, 1)?)?;
+    step("block 63", is_alone(alloc, 63, 1)?)?;
+    step("block 64", is_alone(alloc, 64, 1)?)?;
+    step("block 65", is_alone(alloc, 65, 1)?)?;
+    step("block 32,767", is_alone(alloc, 32_767, 1)?)?;
+    step("a run across the edge of a word", is_alone(alloc, 63, 3)?)?;
+    step("no block", is_empty(alloc)?)
 }

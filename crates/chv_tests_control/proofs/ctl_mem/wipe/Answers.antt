@@ -3,7 +3,7 @@ use Rattle.chv_defs_memory.specs.BankBook.{BankBook}
 use Rattle.chv_guest.specs.LentBanks.{known_at}
 use Rattle.chv_ctl_mem.specs.ZoneCalls.{AreAtRest}
 use Rattle.chv_tests_control.proofs.AtRest.{fresh-at-rest, unpaused}
-use Rattle.chv_tests_control.proofs.ctl_mem.wipes.Goals as goal
+use Rattle.chv_tests_control.proofs.ctl_mem.wipe.Goals as goal
 
 pub wipe_all-requires-clause-rest : goal.wipe_all-requires-clause-rest
 wipe_all-requires-clause-rest c =

@@ -3,7 +3,7 @@ use Rattle.chv_defs_memory.specs.BankBook.{BankBook}
 use Rattle.chv_guest.specs.LentBanks.{known_at}
 use Rattle.chv_ctl_mem.specs.ZoneCalls.{AreAtRest}
 use Rattle.chv_tests_control.proofs.AtRest.{fresh-at-rest}
-use Rattle.chv_tests_control.proofs.ctl_mem.boots.Goals as goal
+use Rattle.chv_tests_control.proofs.ctl_mem.boot.Goals as goal
 
 pub boot_zones-requires-clause-rest : goal.boot_zones-requires-clause-rest
 boot_zones-requires-clause-rest c =

@@ -4,7 +4,7 @@ use Rattle.chv_defs_control.specs.OwnerCalls.{zones_of}
 use Rattle.chv_guest.specs.LentBanks.{known_at}
 use Rattle.chv_ctl_mem.specs.ZoneCalls.{AreAtRest}
 use Rattle.chv_tests_control.proofs.AtRest.{frozen-at-rest, frozen_bank}
-use Rattle.chv_tests_control.proofs.ctl_mem.wipes_paused.Goals as goal
+use Rattle.chv_tests_control.proofs.ctl_mem.wipe_paused.Goals as goal
 
 pub wipe_all-requires-clause-rest : goal.wipe_all-requires-clause-rest
 wipe_all-requires-clause-rest c =
