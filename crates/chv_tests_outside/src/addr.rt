@@ -66,19 +66,20 @@ fn checked_of(alloc: Global, zones: &[Zone]) -> Result<Checked, Fail>
     }
 }
 
-fn finds_all(map: &AddrMap, wanted: &[LookUp]) -> bool {
+/// The first look-up that finds another place: its address and length.
+fn first_other(map: &AddrMap, wanted: &[LookUp]) -> Option<(u64, u64)> {
     for (addr, len, place) in wanted {
         if map.find(*addr, *len) != *place {
-            return false;
+            return Some((*addr, *len));
         }
     }
-    true
+    None
 }
 
-/// Whether all look-ups in the map of some zones find these places.
-fn finds(alloc: Global, zones: &[Zone], wanted: &[LookUp]) -> Result<bool, Fail> {
+/// The same in the map of some zones.
+fn other(alloc: Global, zones: &[Zone], wanted: &[LookUp]) -> Result<Option<(u64, u64)>, Fail> {
     let map = AddrMap::build(alloc, &checked_of(alloc, zones)?)?;
-    Ok(finds_all(&map, wanted))
+    Ok(first_other(&map, wanted))
 }
 
 const WORKED: [LookUp; 5] = [
@@ -189,20 +190,40 @@ const EIGHT: [Zone; 8] = [(512 * MIB, 0); 8];
 
 const EIGHT_THAT_GROW: [Zone; 8] = [(512 * MIB, 130 * MIB); 8];
 
-/// Zones, and look-ups in their map.
-const MAPS: [(&[Zone], &[LookUp]); 12] = [
-    (&[(3_223_322_624, 0)], &WORKED),
-    (&[(4 * MIB, 0)], &WINDOWS),
-    (&[(4 * MIB, 0)], &FIXED),
-    (&[(GIB, 2 * GIB)], &GROWS),
-    (&[(3 * GIB + 2 * MIB, 4 * MIB)], &PAST),
-    (&[(2 * GIB, 0), (2 * GIB, 0)], &SECOND_STRADDLES),
-    (&[(4 * GIB, 0), (2 * MIB, 0)], &FIRST_STRADDLES),
-    (&[(2 * MIB, 2 * MIB), (2 * MIB, 4 * MIB)], &BOTH_GROW),
-    (&EIGHT, &BOOT),
-    (&EIGHT, &[(0x1_4000_0000, 1, Place::Hole)]),
-    (&EIGHT_THAT_GROW, &BOOT),
-    (&EIGHT_THAT_GROW, &PLUGGED),
+/// Maps by name: their zones, and look-ups in them.
+const MAPS: [(&str, &[Zone], &[LookUp]); 12] = [
+    ("a block above the hole", &[(3_223_322_624, 0)], &WORKED),
+    ("the windows of slots", &[(4 * MIB, 0)], &WINDOWS),
+    ("two blocks", &[(4 * MIB, 0)], &FIXED),
+    ("one zone that grows", &[(GIB, 2 * GIB)], &GROWS),
+    (
+        "it grows above the hole",
+        &[(3 * GIB + 2 * MIB, 4 * MIB)],
+        &PAST,
+    ),
+    (
+        "the second zone straddles the hole",
+        &[(2 * GIB, 0), (2 * GIB, 0)],
+        &SECOND_STRADDLES,
+    ),
+    (
+        "the first zone straddles the hole",
+        &[(4 * GIB, 0), (2 * MIB, 0)],
+        &FIRST_STRADDLES,
+    ),
+    (
+        "two zones that grow",
+        &[(2 * MIB, 2 * MIB), (2 * MIB, 4 * MIB)],
+        &BOTH_GROW,
+    ),
+    ("eight zones", &EIGHT, &BOOT),
+    (
+        "above eight zones",
+        &EIGHT,
+        &[(0x1_4000_0000, 1, Place::Hole)],
+    ),
+    ("eight zones that grow", &EIGHT_THAT_GROW, &BOOT),
+    ("where eight zones grow", &EIGHT_THAT_GROW, &PLUGGED),
 ];
 
 /// Three zones, of which the second does not grow.
@@ -230,9 +251,13 @@ fn has_regions(alloc: Global) -> Result<bool, Fail> {
 
 #[test]
 fn maps(rt: HostRuntime) -> Result<(), Fail> {
-    for (k, (zones, wanted)) in MAPS.iter().enumerate() {
-        assert!(rt; finds(rt.alloc(), *zones, *wanted)?, "row {k}");
+    for (name, zones, wanted) in &MAPS {
+        let other = other(rt.alloc(), *zones, *wanted)?;
+        assert_eq!(rt; other, None, "{name}: the look-up that finds another place");
     }
-    assert!(rt; has_regions(rt.alloc())?);
+    assert!(rt;
+        has_regions(rt.alloc())?,
+        "the hotplug regions of three zones"
+    );
     Ok(())
 }

@@ -7,6 +7,7 @@ use chv_io::{
     StdSource, read_from, write_to,
 };
 use chv_tests_samples::numbers;
+use chv_tests_steps::step;
 use std::alloc::{AllocError, Global};
 use std::io::{Error, ErrorKind, Read, Write};
 use std::test::Fail;
@@ -107,10 +108,11 @@ impl Write for Narrow {
     }
 }
 
-fn source_in_memory(alloc: Global) -> Result<bool, AllocError> {
+fn source_in_memory(alloc: Global) -> Result<(), Fail> {
     let mut source = MemSource::new(Bytes::of(alloc, b"hello")?, numbers(alloc, &[2, 3])?);
     let pieces = [Some(b"hel".as_slice()), None, None, Some(b"lo"), Some(b"")];
-    Ok(gives(&mut source, &pieces) && source.source_faults() == 2)
+    step("input in memory: pieces", gives(&mut source, &pieces))?;
+    step("input in memory: faults", source.source_faults() == 2)
 }
 
 /// Whether an output with so much room, whose call of this number fails (0 is none), takes these of the three pieces, so
@@ -126,61 +128,95 @@ fn takes(
     Ok(fill(&mut sink) == (pieces, 1) && sink.written() == written)
 }
 
-fn is_talked_over(link: &mut MemLink) -> bool {
+fn talk_over(link: &mut MemLink) -> Result<(), Fail> {
     let mut buf = [0; 4];
-    let reads = read_from(link, &mut buf) == Ok(2) && read_from(link, &mut buf) == Err(Failed);
-    let writes = write_to(link, b"abc") == Ok(()) && write_to(link, b"d") == Err(Failed);
-    let was_closed = link.is_closed();
+    step("connection: read", read_from(link, &mut buf) == Ok(2))?;
+    step(
+        "connection: read that fails",
+        read_from(link, &mut buf) == Err(Failed),
+    )?;
+    step("connection: write", write_to(link, b"abc") == Ok(()))?;
+    step(
+        "connection: write past the room",
+        write_to(link, b"d") == Err(Failed),
+    )?;
+    step("connection: not closed", !link.is_closed())?;
     link.close();
-    reads && writes && !was_closed && link.is_closed() && link.written() == b"abc".as_slice()
-}
-
-/// A connection that has two of five bytes a read, whose second fails, and room for three.
-fn link_in_memory(alloc: Global) -> Result<bool, AllocError> {
-    let hello = Bytes::of(alloc, b"hello")?;
-    let mut link = MemLink::new(alloc, hello, 2, 3, numbers(alloc, &[2])?)?;
-    Ok(
-        is_talked_over(&mut link)
-            && gives(&mut link, &[Some(b"ll"), Some(b"o"), Some(b"")])
-            && link.source_faults() == 2,
+    step("connection: closed", link.is_closed())?;
+    step(
+        "connection: what was written",
+        link.written() == b"abc".as_slice(),
     )
 }
 
-/// An interrupted read is tried again, and an error is a fault and no end.
-fn source_over_a_reader() -> bool {
-    let mut hello = StdSource::new(b"hello".as_slice());
-    let mut shaky = StdSource::new(Shaky { calls: 0 });
-    gives(&mut hello, &[Some(b"hel"), Some(b"lo"), Some(b"")])
-        && hello.source_faults() == 0
-        && gives(&mut shaky, &[Some(b"x"), None])
-        && shaky.source_faults() == 1
+/// A connection that has two of five bytes a read, whose second fails, and room for three.
+fn link_in_memory(alloc: Global) -> Result<(), Fail> {
+    let hello = Bytes::of(alloc, b"hello")?;
+    let mut link = MemLink::new(alloc, hello, 2, 3, numbers(alloc, &[2])?)?;
+    talk_over(&mut link)?;
+    let pieces = [Some(b"ll".as_slice()), Some(b"o"), Some(b"")];
+    step("connection: pieces", gives(&mut link, &pieces))?;
+    step("connection: faults", link.source_faults() == 2)
 }
 
-fn sink_over_a_writer(alloc: Global) -> bool {
+/// An interrupted read is tried again, and an error is a fault and no end.
+fn source_over_a_reader() -> Result<(), Fail> {
+    let mut hello = StdSource::new(b"hello".as_slice());
+    let pieces = [Some(b"hel".as_slice()), Some(b"lo"), Some(b"")];
+    step("reader: pieces", gives(&mut hello, &pieces))?;
+    step("reader: no fault", hello.source_faults() == 0)?;
+    let mut shaky = StdSource::new(Shaky { calls: 0 });
+    step(
+        "shaky reader: pieces",
+        gives(&mut shaky, &[Some(b"x"), None]),
+    )?;
+    step("shaky reader: fault", shaky.source_faults() == 1)
+}
+
+fn sink_over_a_writer(alloc: Global) -> Result<(), Fail> {
     let mut written = Vec::new(alloc);
     let mut sink = StdSink::new(&mut written);
     let filled = fill(&mut sink);
-    filled == ([true, true, true], 0) && written.as_slice() == b"abcdefg".as_slice()
+    step("writer: pieces", filled == ([true, true, true], 0))?;
+    step(
+        "writer: what is written",
+        written.as_slice() == b"abcdefg".as_slice(),
+    )
 }
 
 #[test]
 fn inputs_and_outputs(rt: HostRuntime) -> Result<(), Fail> {
-    assert!(rt; source_in_memory(rt.alloc())? && link_in_memory(rt.alloc())?);
-    assert!(rt; source_over_a_reader() && sink_over_a_writer(rt.alloc()));
-    // A writer that takes nothing at last.
-    assert!(rt; fill(&mut StdSink::new(Narrow { left: 4 })) == ([true, false, false], 2));
-    // Room for five bytes: the second piece would pass it by one.
-    assert!(rt; takes(rt.alloc(), 5, 0, [true, false, true], b"abg")?);
-    assert!(rt; takes(rt.alloc(), 100, 3, [true, true, false], b"abcdef")?);
-    Ok(())
+    source_in_memory(rt.alloc())?;
+    link_in_memory(rt.alloc())?;
+    source_over_a_reader()?;
+    sink_over_a_writer(rt.alloc())?;
+    let narrow = fill(&mut StdSink::new(Narrow { left: 4 }));
+    step(
+        "a writer that takes nothing at last",
+        narrow == ([true, false, false], 2),
+    )?;
+    // The second piece would pass the room by one.
+    let takes_five = takes(rt.alloc(), 5, 0, [true, false, true], b"abg")?;
+    step("output with room for five bytes", takes_five)?;
+    let takes_two = takes(rt.alloc(), 100, 3, [true, true, false], b"abcdef")?;
+    step("output whose third call fails", takes_two)
 }
 
 #[test]
 fn listener_in_memory(rt: HostRuntime) -> Result<(), Fail> {
-    // The second asks where no connection is left.
-    assert!(rt; serve(rt.alloc(), &[])? == ([true, true, false], 1));
-    assert!(rt; serve(rt.alloc(), &[1])? == ([false, false, false], 1));
-    // A listed call leaves the connection for the next.
-    assert!(rt; serve(rt.alloc(), &[2])? == ([true, false, true], 1));
-    Ok(())
+    let came = serve(rt.alloc(), &[])?;
+    step(
+        "listener with no connection left",
+        came == ([true, true, false], 1),
+    )?;
+    let came = serve(rt.alloc(), &[1])?;
+    step(
+        "listener that does not listen",
+        came == ([false, false, false], 1),
+    )?;
+    let came = serve(rt.alloc(), &[2])?;
+    step(
+        "a call that fails keeps the connection",
+        came == ([true, false, true], 1),
+    )
 }

@@ -197,26 +197,28 @@ fn left_over(
     })
 }
 
-/// Whether a stream, byte by byte or in large pieces, is replied so, by so many calls.
-fn is_replied(
-    alloc: Global,
-    stream: &[u8],
-    by_bytes: bool,
-    replies: &[u8],
-    calls: usize,
-) -> Result<bool, AllocError> {
-    let mut link = link_of(alloc, stream, by_bytes, 0)?;
+/// What of a session differs from what it should be, where two requests come byte by byte or in large pieces: its replies,
+/// the number of its calls (a ping, a begin, a settle and a bye), or nothing.
+fn other_replies(alloc: Global, by_bytes: bool) -> Result<&'static str, AllocError> {
+    let mut link = link_of(alloc, TWO, by_bytes, 0)?;
     let left = left_over(alloc, &mut link, 9, 9)?;
-    Ok(left.put.as_slice() == replies && left.calls == calls)
+    Ok(if left.put.as_slice() != TWO_REPLIES {
+        "the replies"
+    } else if left.calls != 4 {
+        "the number of calls"
+    } else {
+        "nothing"
+    })
 }
 
-/// A stream, the call of the connection that fails, the calls behind which the run stops, and the turns; then the end,
-/// and the number of calls.
-type End<'a> = (&'a [u8], u64, usize, usize, SessionEnd, usize);
+/// The end of a session, by name: a stream, the call of the connection that fails (0 is none), the calls behind which the run
+/// stops, and the turns; then the end, and the number of calls.
+type End<'a> = (&'a str, &'a [u8], u64, usize, usize, SessionEnd, usize);
 
 const ENDS: [End<'static>; 17] = [
-    (b"", 0, 9, 9, SessionEnd::Ended, 1),
+    ("no bytes", b"", 0, 9, 9, SessionEnd::Ended, 1),
     (
+        "a part of a request",
         b"PUT /api/v1/vm.boot HTTP/1.1\r\nContent-Length: 5\r\n\r\nhel",
         0,
         9,
@@ -225,12 +227,53 @@ const ENDS: [End<'static>; 17] = [
         1,
     ),
     // The Bye has a turn of its own behind a last request, and behind bytes that are refused.
-    (LAST, 0, 9, 1, SessionEnd::Stopped, 1),
-    (LAST, 0, 9, 2, SessionEnd::Closed, 2),
-    (LAST, 0, 1, 9, SessionEnd::Stopped, 1),
-    (b"no head\r\n\r\n", 0, 9, 1, SessionEnd::Stopped, 0),
-    (b"no head\r\n\r\n", 0, 9, 2, SessionEnd::Bad, 1),
     (
+        "one turn of a last request",
+        LAST,
+        0,
+        9,
+        1,
+        SessionEnd::Stopped,
+        1,
+    ),
+    (
+        "two turns of a last request",
+        LAST,
+        0,
+        9,
+        2,
+        SessionEnd::Closed,
+        2,
+    ),
+    (
+        "a stop at the bye of a last request",
+        LAST,
+        0,
+        1,
+        9,
+        SessionEnd::Stopped,
+        1,
+    ),
+    (
+        "one turn of a bad head",
+        b"no head\r\n\r\n",
+        0,
+        9,
+        1,
+        SessionEnd::Stopped,
+        0,
+    ),
+    (
+        "two turns of a bad head",
+        b"no head\r\n\r\n",
+        0,
+        9,
+        2,
+        SessionEnd::Bad,
+        1,
+    ),
+    (
+        "a request in HTTP/1.0",
         b"GET /nowhere HTTP/1.0\r\n\r\n",
         0,
         9,
@@ -238,39 +281,54 @@ const ENDS: [End<'static>; 17] = [
         SessionEnd::Closed,
         1,
     ),
-    // The run stops at each call in turn: at the Settle and at the Bye too.
-    (TWO, 0, 0, 9, SessionEnd::Stopped, 0),
-    (TWO, 0, 1, 9, SessionEnd::Stopped, 1),
-    (TWO, 0, 2, 9, SessionEnd::Stopped, 2),
-    (TWO, 0, 3, 9, SessionEnd::Stopped, 3),
-    // A read fails, two writes, and a read of the end.
-    (TWO, 1, 9, 9, SessionEnd::Fault, 1),
-    (TWO, 2, 9, 9, SessionEnd::Fault, 2),
-    (TWO, 3, 9, 9, SessionEnd::Fault, 4),
-    (TWO, 4, 9, 9, SessionEnd::Fault, 4),
-    (TWO, 5, 9, 9, SessionEnd::Ended, 4),
+    ("a stop at the ping", TWO, 0, 0, 9, SessionEnd::Stopped, 0),
+    ("a stop at the begin", TWO, 0, 1, 9, SessionEnd::Stopped, 1),
+    ("a stop at the settle", TWO, 0, 2, 9, SessionEnd::Stopped, 2),
+    ("a stop at the bye", TWO, 0, 3, 9, SessionEnd::Stopped, 3),
+    ("the first read fails", TWO, 1, 9, 9, SessionEnd::Fault, 1),
+    ("the first write fails", TWO, 2, 9, 9, SessionEnd::Fault, 2),
+    ("the second write fails", TWO, 3, 9, 9, SessionEnd::Fault, 4),
+    (
+        "the read of the end fails",
+        TWO,
+        4,
+        9,
+        9,
+        SessionEnd::Fault,
+        4,
+    ),
+    ("no call fails", TWO, 5, 9, 9, SessionEnd::Ended, 4),
 ];
 
-fn is_end(left: &Left, end: &End) -> bool {
-    left.log.end == end.4
-        && left.calls == end.5
-        && left.put.as_slice() == left.log.replied.as_slice()
-        && left.is_closed == (end.3 > 1)
+/// What of a session differs from what it should be, or nothing.
+fn other_end(left: &Left, end: &End) -> &'static str {
+    if left.log.end != end.5 {
+        "the end"
+    } else if left.calls != end.6 {
+        "the number of calls"
+    } else if left.put.as_slice() != left.log.replied.as_slice() {
+        "the replies in the log"
+    } else if left.is_closed != (end.4 > 1) {
+        "whether the connection was closed"
+    } else {
+        "nothing"
+    }
 }
 
-fn ends_so(alloc: Global, end: &End) -> Result<bool, AllocError> {
-    let mut link = link_of(alloc, end.0, false, end.1)?;
-    Ok(is_end(&left_over(alloc, &mut link, end.2, end.3)?, end))
+fn other(alloc: Global, end: &End) -> Result<&'static str, AllocError> {
+    let mut link = link_of(alloc, end.1, false, end.2)?;
+    Ok(other_end(&left_over(alloc, &mut link, end.3, end.4)?, end))
 }
 
 #[test]
 fn sessions(rt: HostRuntime) -> Result<(), Fail> {
     for by_bytes in [false, true] {
-        // Ping, Begin, Settle, Bye.
-        assert!(rt; is_replied(rt.alloc(), TWO, by_bytes, TWO_REPLIES, 4)?);
+        let other = other_replies(rt.alloc(), by_bytes)?;
+        assert_eq!(rt; other, "nothing", "two requests, byte by byte: {by_bytes}");
     }
-    for (k, end) in ENDS.iter().enumerate() {
-        assert!(rt; ends_so(rt.alloc(), end)?, "row {k}");
+    for end in &ENDS {
+        let (name, ..) = end;
+        assert_eq!(rt; other(rt.alloc(), end)?, "nothing", "{name}");
     }
     Ok(())
 }

@@ -39,18 +39,28 @@ fn came(alloc: Global, is_made: bool, fail: &[u64]) -> Result<Came, AllocError> 
     Ok(work(&mut disk))
 }
 
-/// Whether the disk is made, its calls that fail, and what comes of it. A write that fails leaves zeros.
-const ROWS: [(bool, &[u64], Came); 4] = [
-    (false, &[], ([true; 4], [1, 0], 0)),
-    (true, &[], ([true; 4], [1, 0], 0)),
-    (true, &[1, 4], ([false, true, true, false], [0, 0], 2)),
-    (false, &[3], ([true, true, false, true], [1, 2], 1)),
+/// Disks by name: whether the disk is made, its calls that fail, and what comes of it. A write that fails leaves zeros.
+const DISKS: [(&str, bool, &[u64], Came); 4] = [
+    ("a given disk", false, &[], ([true; 4], [1, 0], 0)),
+    ("a made disk", true, &[], ([true; 4], [1, 0], 0)),
+    (
+        "its write and its flush fail",
+        true,
+        &[1, 4],
+        ([false, true, true, false], [0, 0], 2),
+    ),
+    (
+        "its second read fails",
+        false,
+        &[3],
+        ([true, true, false, true], [1, 2], 1),
+    ),
 ];
 
 #[test]
 fn disks_of_either_kind(rt: HostRuntime) -> Result<(), Fail> {
-    for (is_made, fail, expected) in &ROWS {
-        assert!(rt; came(rt.alloc(), *is_made, *fail)? == *expected);
+    for (name, is_made, fail, expected) in &DISKS {
+        assert!(rt; came(rt.alloc(), *is_made, *fail)? == *expected, "{name}");
     }
     Ok(())
 }
