@@ -1,5 +1,6 @@
 //! Answers cases: a line of standard input names a public call and what it is given, and behind it stands what the call
-//! answers. Blank lines, and lines whose first word is `#`, are written as they are.
+//! answers. Blank lines, and lines whose first word is `#`, are written as they are. `traces` and `plays` answer the cases of
+//! `chv_trace` and `chv_top`; all others are answered by `chv_tests_answers`, whose head names the crates.
 #![tactic(auto)]
 
 mod kinds;
