@@ -75,44 +75,64 @@ name_of text = kept is_id BadName (Some text)
 
 -- ---- so many fields, each of its kind
 
--- no field
+-- exactly one field
+unfoldable pub one : List (List ℕ) → Result (List ℕ) Reason
+one (a ∷ []) = Ok a
+one fields = Err FieldCount
+
+-- exactly two
+unfoldable pub two : List (List ℕ) → Result (List ℕ × List ℕ) Reason
+two (a ∷ b ∷ []) = Ok (a, b)
+two fields = Err FieldCount
+
+-- exactly three
+unfoldable pub three : List (List ℕ) → Result (List ℕ × List ℕ × List ℕ) Reason
+three (a ∷ b ∷ c ∷ []) = Ok (a, b, c)
+three fields = Err FieldCount
+
+-- exactly four
+unfoldable pub four : List (List ℕ) → Result (List ℕ × List ℕ × List ℕ × List ℕ) Reason
+four (a ∷ b ∷ c ∷ d ∷ []) = Ok (a, b, c, d)
+four fields = Err FieldCount
+
+-- an instruction without fields
 unfoldable pub with_none : Line → List (List ℕ) → Result Line Reason
 with_none l [] = Ok l
 with_none l fields = Err FieldCount
 
--- one field
+-- an instruction of one field
 unfoldable pub with_one : {A : Type 0} → (List ℕ → Result A Reason) → (A → Line) → List (List ℕ) → Result Line Reason
-with_one first make (a ∷ []) = do
-  x ← first a
+with_one first make fields = do
+  field ← one fields
+  x ← first field
   Ok (make x)
-with_one first make fields = Err FieldCount
 
--- two fields
+-- an instruction of two fields, read from the left
 unfoldable pub with_two : {A B : Type 0} → (List ℕ → Result A Reason) → (List ℕ → Result B Reason) → (A → B → Line) → List (List ℕ) → Result Line Reason
-with_two first second make (a ∷ b ∷ []) = do
-  x ← first a
-  y ← second b
+with_two first second make fields = do
+  f ← two fields
+  x ← first f.0
+  y ← second f.1
   Ok (make x y)
-with_two first second make fields = Err FieldCount
 
--- three fields
+-- an instruction of three fields, read from the left
 unfoldable pub with_three : {A B C : Type 0} → (List ℕ → Result A Reason) → (List ℕ → Result B Reason) → (List ℕ → Result C Reason) → (A → B → C → Line) → List (List ℕ) → Result Line Reason
-with_three first second third make (a ∷ b ∷ c ∷ []) = do
-  x ← first a
-  y ← second b
-  z ← third c
+with_three first second third make fields = do
+  f ← three fields
+  x ← first f.0
+  y ← second f.1
+  z ← third f.2
   Ok (make x y z)
-with_three first second third make fields = Err FieldCount
 
--- a width, two registers and a number
+-- an instruction with a width, two registers and a number, read from the left
 unfoldable pub with_four : (ℕ → ℕ → ℕ → ℕ → Line) → List (List ℕ) → Result Line Reason
-with_four make (a ∷ b ∷ c ∷ d ∷ []) = do
-  width ← memory_width_of a
-  r ← register_of b
-  ra ← register_of c
-  offset ← value_of d
+with_four make fields = do
+  f ← four fields
+  width ← memory_width_of f.0
+  r ← register_of f.1
+  ra ← register_of f.2
+  offset ← value_of f.3
   Ok (make width r ra offset)
-with_four make fields = Err FieldCount
 
 -- ---- a line
 
@@ -201,12 +221,12 @@ abbrev pub is_missing : List (List ℕ) → Option (List ℕ) → Bool
 is_missing labels None = false
 is_missing labels (Some name) = not (has_label labels name)
 
--- an instruction, or what is wrong with its labels: told are the labels of the lines before, and those of all lines
-abbrev pub with_labels : List (List ℕ) → List (List ℕ) → Line → Result Line Reason
-with_labels before all l =
-    if is_there before (own_label l) then Err LabelTwice else (
-    if is_missing all (target l) then Err UnknownLabel else
-    Ok l)
+-- what is wrong with an instruction's labels, where something is: told are the labels of the lines before, and those of all
+abbrev pub label_fault : List (List ℕ) → List (List ℕ) → Line → Option Reason
+label_fault before all l =
+    if is_there before (own_label l) then Some LabelTwice else (
+    if is_missing all (target l) then Some UnknownLabel else
+    None)
 
 -- ---- a script
 
@@ -215,11 +235,16 @@ pub record Fault : Type 0 where
   pub line : ℕ
   pub reason : Reason
 
+-- what was read, unless something is wrong with it
+abbrev pub unless : {A : Type 0} → Option Reason → A → Result A Reason
+unless None x = Ok x
+unless (Some reason) x = Err reason
+
 -- the instruction that a line is behind some lines and before others, or why it fails there
 abbrev pub line_between : List (List ℕ) → List ℕ → List (List ℕ) → Result Line Reason
 line_between before text behind = do
   l ← line_of text
-  with_labels (labels_of before) (labels_of (before ++ text ∷ behind)) l
+  unless (label_fault (labels_of before) (labels_of (before ++ text ∷ behind)) l) l
 
 -- what a line of this number is
 abbrev pub at_line : {A : Type 0} → ℕ → Result A Reason → Result A Fault
