@@ -1,0 +1,4 @@
+pub mod FieldLemmas
+pub mod LabelLemmas
+pub mod StepLemmas
+pub mod Printed

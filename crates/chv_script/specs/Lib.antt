@@ -1,0 +1,5 @@
+pub mod Answer
+pub mod Fields
+pub mod Labels
+pub mod Reads
+pub mod Steps

@@ -1,0 +1,14 @@
+//! Scripts of vCPUs: read from their lines, each refusal with its line and reason, and printed.
+#![tactic(auto)]
+
+mod fields;
+mod kinds;
+mod labels;
+mod lines;
+mod printing;
+mod reading;
+mod state;
+mod stop;
+
+pub use printing::print;
+pub use reading::{ScriptFault, read};
