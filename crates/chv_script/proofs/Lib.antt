@@ -1,4 +1,9 @@
 pub mod FieldLemmas
+pub mod InstructionLemmas
+pub mod KindLemmas
 pub mod LabelLemmas
-pub mod StepLemmas
+pub mod PartLemmas
 pub mod Printed
+pub mod PutLemmas
+pub mod ShapeLemmas
+pub mod StepLemmas
