@@ -1,4 +1,5 @@
 pub mod FieldLemmas
+pub mod GrammarLemmas
 pub mod InstructionLemmas
 pub mod KindLemmas
 pub mod LabelLemmas

@@ -18,7 +18,7 @@ bind_ok (Err d) f y e = absurd (cc)
 pub bind_goes : {A B E : Type 0} (r : Result A E) (f : A → Result B E) (x : A) → r ≡ Ok x → (r >>= f) ≡ f x
 bind_goes r f x is = ap (λ r. r >>= f) is
 
-made_is : {A : Type 0} (x y : A) (E : Type 0) → (let r : Result A E = Ok x in r) ≡ Ok y → x ≡ y
+pub made_is : {A : Type 0} (x y : A) (E : Type 0) → (let r : Result A E = Ok x in r) ≡ Ok y → x ≡ y
 made_is x y E e = cc
 
 one_ok : (fields : List (List ℕ)) (a : List ℕ) → one fields ≡ Ok a → fields ≡ a ∷ []
