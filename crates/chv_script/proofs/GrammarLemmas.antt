@@ -82,7 +82,7 @@ unless_ok None l m e = (refl, made_is l m Reason e)
 unless_ok (Some reason) l m e = absurd (cc)
 
 -- what is known of a line that is read behind some lines and before others
-record IsRead (before : List (List ℕ)) (text : List ℕ) (behind : List (List ℕ)) (l : Line) : Type 0 where
+pub record IsRead (before : List (List ℕ)) (text : List ℕ) (behind : List (List ℕ)) (l : Line) : Type 0 where
   pub spelled : text ≡ line_text l
   pub fine : is_instruction l ≡ true
   pub own : label_in (fields_of text) ≡ own_label l
@@ -103,7 +103,7 @@ line_read before text behind l e =
       known = tests.1;
     })
 
-read_line : (before : List (List ℕ)) (text : List ℕ) (behind : List (List ℕ)) (l : Line) → IsRead before text behind l → line_between before text behind ≡ Ok l
+pub read_line : (before : List (List ℕ)) (text : List ℕ) (behind : List (List ℕ)) (l : Line) → IsRead before text behind l → line_between before text behind ≡ Ok l
 read_line before text behind l is =
     bind_goes (line_of text) (λ m. unless (label_fault (labels_of before) (labels_of (before ++ text ∷ behind)) m) m) l (ap line_of is.spelled ∙ line_again l is.fine)
     ∙ ap (λ fault. unless fault l) (none_fault _ _ is.once is.known)
@@ -115,14 +115,14 @@ at_line_ok n (Ok y) x e = let is : y ≡ x = made_is y x Fault e in ap Ok is
 at_line_ok n (Err reason) x e = absurd (cc)
 
 -- a first line and the rest
-record IsFirst (before : List (List ℕ)) (text : List ℕ) (lines : List (List ℕ)) (script : List Line) : Type 0 where
+pub record IsFirst (before : List (List ℕ)) (text : List ℕ) (lines : List (List ℕ)) (script : List Line) : Type 0 where
   pub first : Line
   pub rest : List Line
   pub all : first ∷ rest ≡ script
   pub is : IsRead before text lines first
   pub others : read_behind (before ++ text ∷ []) lines ≡ Ok rest
 
-first_read : (before : List (List ℕ)) (text : List ℕ) (lines : List (List ℕ)) (script : List Line) → read_behind before (text ∷ lines) ≡ Ok script → IsFirst before text lines script
+pub first_read : (before : List (List ℕ)) (text : List ℕ) (lines : List (List ℕ)) (script : List Line) → read_behind before (text ∷ lines) ≡ Ok script → IsFirst before text lines script
 unfolding read_behind
 first_read before text lines script e =
     let found = bind_ok (at_line (length before + 1) (line_between before text lines)) (λ l. read_behind (before ++ text ∷ []) lines >>= λ rest. Ok (l ∷ rest)) script e in

@@ -97,9 +97,9 @@ pub registers : IsKind register_of register is_register
 unfolding register_of
 registers = record {
   spelled = λ field x e.
-  let test = chosen (bytes_eq (take 1 field) (codes "r")) (kept is_register BadRegister (dec (drop 1 field))) BadRegister x e in
-  let found = kept_ok is_register BadRegister (dec (drop 1 field)) x test.1 in
-  (front_is field test.0 ∙ ap (λ t. codes "r" ++ t) (dec_spelled (drop 1 field) x found.0), found.1);
+      let test = chosen (bytes_eq (take 1 field) (codes "r")) (kept is_register BadRegister (dec (drop 1 field))) BadRegister x e in
+      let found = kept_ok is_register BadRegister (dec (drop 1 field)) x test.1 in
+      (front_is field test.0 ∙ ap (λ t. codes "r" ++ t) (dec_spelled (drop 1 field) x found.0), found.1);
   again = λ x good. kept_again is_register BadRegister (dec (dec_text x)) x (dec_again x (register_small x good)) good;
   plain = λ x good. dec_plain x (register_small x good);
 }

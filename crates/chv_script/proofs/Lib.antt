@@ -3,6 +3,7 @@ pub mod GrammarLemmas
 pub mod InstructionLemmas
 pub mod KindLemmas
 pub mod LabelLemmas
+pub mod LawLemmas
 pub mod PartLemmas
 pub mod Printed
 pub mod PutLemmas

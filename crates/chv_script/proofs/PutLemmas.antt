@@ -66,10 +66,10 @@ pub puts : IsKind put_bytes_of pairs is_stored
 unfolding put_bytes_of
 puts = record {
   spelled = λ field x e.
-  let found = kept_ok is_put BadHex (bytes_of field) x e in
-  (pairs_one_spelling field x found.0, and_from _ _ found.1 (pairs_are_bytes field x (in_some field x found.0)));
+      let found = kept_ok is_put BadHex (bytes_of field) x e in
+      (pairs_one_spelling field x found.0, and_from _ _ found.1 (pairs_are_bytes field x (in_some field x found.0)));
   again = λ x good.
-  let parts = and_parts (is_put x) (are_bytes x) good in
-  kept_again is_put BadHex (bytes_of (pairs x)) x (pairs_read_back x (byte_at x parts.1) (some_bytes x parts.0)) parts.0;
+      let parts = and_parts (is_put x) (are_bytes x) good in
+      kept_again is_put BadHex (bytes_of (pairs x)) x (pairs_read_back x (byte_at x parts.1) (some_bytes x parts.0)) parts.0;
   plain = λ x good. all_plain is_hex_digit refl (pairs x) (pairs_digits x (and_parts (is_put x) (are_bytes x) good).1);
 }

@@ -10,7 +10,7 @@ use Rattle.chv_script.specs.Steps.{checked, with_front, resumed, after_line}
 use Rattle.chv_script.proofs.LabelLemmas.{fault_same}
 
 -- what comes next is the same
-next_same : {A B : Type 0} (r : Result A Reason) (f g : A → Result B Reason) → ((x : A) → f x ≡ g x) → (r >>= f) ≡ (r >>= g)
+pub next_same : {A B : Type 0} (r : Result A Reason) (f g : A → Result B Reason) → ((x : A) → f x ≡ g x) → (r >>= f) ≡ (r >>= g)
 next_same (Ok x) f g h = h x
 next_same (Err e) f g h = refl
 
