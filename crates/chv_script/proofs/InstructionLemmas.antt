@@ -1,5 +1,5 @@
 -- A line that is read is the one spelling of its instruction, and that spelling is read back.
-use Rattle.std.proofs.Common.{◌≡◌, ℕ, ◌&&◌, Bool, true, false, cond, List, [], ◌∷◌, codes, Option, None, Some, Result, Ok, Err, refl, sym, ◌∙◌, ap, subst}
+use Rattle.std.proofs.Common.{◌≡◌, ℕ, ◌&&◌, Bool, true, false, cond, List, [], ◌∷◌, codes, None, Some, Result, Ok, Err, refl, sym, ◌∙◌, ap, subst}
 use Rattle.std.specs.List.{list_all, join_with_byte}
 use Rattle.std.specs.Str.{bytes_eq}
 use Rattle.std.proofs.lemmas.Bool.{and_parts, and_from, cond-true}
@@ -14,7 +14,7 @@ use Rattle.chv_defs_scene.specs.declared.scene.Line.TheVariants as line
 use Rattle.chv_defs_scene.specs.declared.scene.MathOp.{MathOp}
 use Rattle.chv_defs_scene.specs.declared.scene.MathOp.TheVariants as op
 use Rattle.chv_defs_scene.specs.ScriptText.{register, operation, line_text}
-use Rattle.chv_defs_scene.specs.ScriptReading.{fields_of, register_of, memory_width_of, port_width_of, value_of, port_of, put_bytes_of, name_of, with_none, with_one, with_two, with_three, with_four, jump_of, access_of, math_of, instruction_of, by_fields, line_of, label_in, own_label, is_register, is_port_width, is_port, is_put, is_instruction}
+use Rattle.chv_defs_scene.specs.ScriptReading.{fields_of, register_of, port_width_of, value_of, port_of, put_bytes_of, name_of, with_none, with_one, with_two, with_three, with_four, jump_of, access_of, math_of, instruction_of, by_fields, line_of, label_in, own_label, is_register, is_port_width, is_port, is_put, is_instruction}
 use Rattle.chv_script.proofs.FieldLemmas.{no_space}
 use Rattle.chv_script.proofs.KindLemmas.{registers, memory_widths, port_widths, values, ports, names}
 use Rattle.chv_script.proofs.PutLemmas.{are_bytes, is_stored, puts}

@@ -1,24 +1,22 @@
 -- Each kind of field has one spelling, without a space, which is read back.
-use Rattle.std.proofs.Common.{◌≡◌, ℕ, ◌+◌, ◌/◌, ◌%◌, ◌^◌, ◌<◌, ◌≤◌, ◌==◌, ◌&&◌, ◌||◌, not, nat_le, nat_lt, Bool, true, false, cond, zero, suc, List, [], ◌∷◌, ◌++◌, length, take, drop, get_or, codes, slice_index, Option, None, Some, Result, Ok, Err, refl, sym, ◌∙◌, ap, subst, arith, lit≤}
-use Rattle.std.specs.Fmt.{digit_glyph}
+use Rattle.std.proofs.Common.{◌≡◌, ℕ, ◌^◌, ◌<◌, ◌==◌, ◌&&◌, ◌||◌, not, nat_le, nat_lt, Bool, true, false, cond, List, [], ◌∷◌, ◌++◌, length, take, drop, codes, slice_index, Option, None, Some, Result, Ok, Err, refl, sym, ◌∙◌, ap, subst, arith}
 use Rattle.std.specs.List.{list_all}
 use Rattle.std.specs.Str.{bytes_eq}
 use Rattle.std.specs.Str.Parse.{digits_value}
-use Rattle.std.proofs.lemmas.Bool.{agree_below_at, and_parts, and_from, cond-true, ne_eqb, leb-true, ltb-true, lt-ltb}
+use Rattle.std.proofs.lemmas.Bool.{and_parts, and_from, cond-true, ne_eqb, leb-true, ltb-true}
 use Rattle.std.proofs.lemmas.Bool.Decides.{nat_tests}
 use Rattle.std.proofs.lemmas.List.{take-append-drop}
 use Rattle.std.proofs.lemmas.Option.{cond_some}
 use Rattle.std.proofs.lemmas.Slice.Eq.{bytes_eq-Decides}
 use Rattle.chv_defs_base.specs.Id.{is_id, is_id_byte}
-use Rattle.chv_defs_base.specs.Numbers.{is_decimal_digit, is_hex_digit, are_digits, number_of, dec, dec_text, hex, hex_text, pairs, bytes_of, is_width}
+use Rattle.chv_defs_base.specs.Numbers.{is_decimal_digit, is_hex_digit, are_digits, number_of, dec, dec_text, hex, hex_text, is_width}
 use Rattle.chv_defs_base.specs.declared.rule.Reason.{Reason}
 use Rattle.chv_defs_base.specs.declared.rule.Reason.TheVariants.{BadRegister, BadWidth, BadHex, BadName}
 use Rattle.chv_defs_scene.specs.ScriptText.{register}
-use Rattle.chv_defs_scene.specs.ScriptReading.{kept, is_register, register_of, memory_width_of, is_port_width, port_width_of, value_of, is_port, port_of, is_put, put_bytes_of, name_of}
-use Rattle.chv_num.proofs.Bases.{decimal_base, hex_base}
+use Rattle.chv_defs_scene.specs.ScriptReading.{kept, is_register, register_of, memory_width_of, is_port_width, port_width_of, value_of, is_port, port_of, name_of}
+use Rattle.chv_num.proofs.Bases.{decimal_base}
 use Rattle.chv_num.proofs.Spelling.{one_spelling, read_back}
 use Rattle.chv_num.proofs.HexSpelling.{chosen as some_chosen, hex_one_spelling, hex_read_back}
-use Rattle.chv_num.proofs.PairSpelling.{pairs_one_spelling, pairs_read_back}
 use Rattle.chv_script.proofs.FieldLemmas.{no_space}
 
 -- what is known of a kind of field: its reader, its spelling and its values

@@ -1,16 +1,16 @@
 -- The laws of scripts.
-use Rattle.std.proofs.Common.{◌≡◌, ℕ, ◌+◌, ◌≤◌, List, [], ◌∷◌, ◌++◌, length, take, drop, map, flat_map, codes, Result, Ok, Err, refl, sym, ◌∙◌, ap, subst, append_assoc, length-append, arith}
+use Rattle.std.proofs.Common.{◌≡◌, ℕ, ◌+◌, List, [], ◌∷◌, ◌++◌, length, take, drop, map, flat_map, codes, Result, Ok, Err, refl, sym, ◌∙◌, ap, subst, append_assoc, length-append, arith}
 use Rattle.std.proofs.lemmas.List.{take-append-drop, take_at, append-nil}
 use Rattle.chv_defs_base.specs.declared.rule.Reason.{Reason}
 use Rattle.chv_defs_scene.specs.declared.scene.Line.{Line}
 use Rattle.chv_defs_scene.specs.declared.scene.Script.{Script}
-use Rattle.chv_defs_scene.specs.ScriptText.{line_text, script_text}
-use Rattle.chv_defs_scene.specs.ScriptReading.{◌>>=◌, labels_of, label_fault, unless, line_of, line_between, Fault, at_line, read_behind, read_script, IsScript}
+use Rattle.chv_defs_scene.specs.ScriptText.{line_text}
+use Rattle.chv_defs_scene.specs.ScriptReading.{◌>>=◌, labels_of, unless, line_of, line_between, Fault, at_line, read_behind, read_script}
 use Rattle.chv_script.specs.Labels.{SameLabels}
-use Rattle.chv_script.specs.Laws.{text_of, IsReadBack, OneSpelling, IsFirstFault, NamesFirstFault, NoScriptBegins}
+use Rattle.chv_script.specs.Laws.{text_of, IsReadBack, OneSpelling, NamesFirstFault, NoScriptBegins}
 use Rattle.chv_script.proofs.LabelLemmas.{fault_same}
 use Rattle.chv_script.proofs.StepLemmas.{next_same}
-use Rattle.chv_script.proofs.GrammarLemmas.{IsRead, IsFirst, first_read, read_line, read_is_script, script_is_read}
+use Rattle.chv_script.proofs.GrammarLemmas.{first_read, read_line, read_is_script, script_is_read}
 
 -- ---- one spelling
 

@@ -1,5 +1,5 @@
 -- The fields of an instruction.
-use Rattle.std.proofs.Common.{◌≡◌, ℕ, ◌^◌, nat_lt, ◌==◌, not, Bool, true, false, List, [], ◌∷◌, ◌++◌, codes, refl, sym, ◌∙◌, ap, append_assoc}
+use Rattle.std.proofs.Common.{◌≡◌, ℕ, ◌^◌, nat_lt, Bool, true, List, [], ◌∷◌, ◌++◌, codes, refl, ◌∙◌, ap, append_assoc}
 use Rattle.std.specs.List.{list_all, join_with_byte}
 use Rattle.std.proofs.lemmas.Bool.{and_parts}
 use Rattle.chv_defs_base.specs.Numbers.{dec_text, hex_text, pairs}

@@ -4,7 +4,7 @@ use Rattle.std.proofs.lemmas.Grind.{take_at_read}
 use Rattle.std.proofs.lemmas.List.{take-append-drop, drop_more, length-take, length-drop, nil_from_length, append-nil}
 use Rattle.chv_defs_base.specs.declared.rule.Reason.{Reason}
 use Rattle.chv_defs_scene.specs.declared.scene.Line.{Line}
-use Rattle.chv_defs_scene.specs.ScriptReading.{◌>>=◌, labels_of, line_of, label_fault, unless, Fault, at_line, line_between, read_behind, read_script}
+use Rattle.chv_defs_scene.specs.ScriptReading.{◌>>=◌, labels_of, line_of, unless, Fault, at_line, line_between, read_behind, read_script}
 use Rattle.chv_script.specs.Labels.{SameLabels}
 use Rattle.chv_script.specs.Steps.{checked, with_front, resumed, after_line}
 use Rattle.chv_script.proofs.LabelLemmas.{fault_same}

@@ -1,5 +1,5 @@
 -- Laws above the definitions of scripts.
-use Rattle.std.specs.Prelude.{◌≡◌, ℕ, ◌+◌, List, [], ◌∷◌, ◌++◌, length, take, map, flat_map, codes, Ok, Err}
+use Rattle.std.specs.Prelude.{◌≡◌, ℕ, ◌+◌, List, ◌∷◌, ◌++◌, length, take, map, flat_map, codes, Ok, Err}
 use Rattle.chv_defs_scene.specs.ScriptReading.{Fault, line_between, labels_of, read_script, IsScript}
 use Rattle.chv_defs_scene.specs.ScriptText.{line_text, script_text}
 use Rattle.chv_defs_scene.specs.declared.scene.Line.{Line}

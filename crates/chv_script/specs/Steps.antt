@@ -1,5 +1,5 @@
 -- What was read of a script so far, and what is read from there on.
-use Rattle.std.specs.Prelude.{ℕ, ◌+◌, List, [], ◌∷◌, ◌++◌, length, Option, None, Some, Result, Ok, Err}
+use Rattle.std.specs.Prelude.{ℕ, List, ◌++◌, Option, None, Some, Result, Ok, Err}
 use Rattle.chv_defs_base.specs.declared.rule.Reason.{Reason}
 use Rattle.chv_defs_scene.specs.ScriptReading.{◌>>=◌, line_of, label_fault, unless, Fault, read_behind}
 use Rattle.chv_defs_scene.specs.declared.scene.Line.{Line}

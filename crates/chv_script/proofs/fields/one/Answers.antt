@@ -1,6 +1,5 @@
-use Rattle.std.proofs.Common.{sym, subst, ap, ◌∙◌, option_map, length, ◌<◌}
+use Rattle.std.proofs.Common.{sym, subst, ap, option_map, length, ◌<◌}
 use Rattle.std.proofs.lemmas.Result.{err_from_is_err_and}
-use Rattle.chv_script.specs.Answer.{Fails}
 use Rattle.chv_script.specs.Fields.{fields_behind}
 use Rattle.chv_script.proofs.FieldLemmas.{one_first, one_alone, one_more, field_there}
 use Rattle.chv_script.proofs.fields.one.Goals as goal

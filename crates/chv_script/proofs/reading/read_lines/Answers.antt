@@ -1,6 +1,4 @@
-use Rattle.std.proofs.Common.{◌≡◌, ◌+◌, take, drop, refl, sym, ◌∙◌, ap, arith}
-use Rattle.chv_defs_base.specs.declared.rule.Reason.{Reason}
-use Rattle.chv_defs_scene.specs.ScriptReading.{read_script}
+use Rattle.std.proofs.Common.{◌∙◌, ap, arith}
 use Rattle.chv_script.specs.Reads.{answer_of}
 use Rattle.chv_script.proofs.LabelLemmas.{same_take}
 use Rattle.chv_script.proofs.StepLemmas.{next_line, it_fails, it_goes, none_is, ended}
