@@ -1,3 +1,4 @@
+pub mod LegalTrace
 pub mod ProgramText
 pub mod Schedule
 pub mod TraceText

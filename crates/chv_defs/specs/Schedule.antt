@@ -1,5 +1,5 @@
 -- The serial schedule, which is this project's own: from a scenario's sessions, and the disks that stand by, the one trace
--- that `play` gives, or the first book that is full.
+-- that `play` gives, with the histories of the control book and of the banks, or the first book that is full.
 use Rattle.std.specs.Prelude.{ℕ, zero, suc, ◌+◌, ◌==◌, ◌&&◌, Bool, true, false, nat_lt, nat_le, max, if◌then◌else◌, List, [], ◌∷◌, ◌++◌, length, take, drop, map, filter, flat_map, slice_get, Option, None, Some, Result, Ok, Err}
 use Rattle.std.specs.List.{filter_map, range_with_len, enumerate_from}
 use Rattle.chv_defs_base.specs.declared.rule.Rule.{Rule}
@@ -18,7 +18,13 @@ use Rattle.chv_defs.specs.declared.trace.Trace.{Trace}
 use Rattle.chv_defs.specs.declared.trace.SessionTrace.{SessionTrace}
 use Rattle.chv_defs_control.specs.Machine.{empty_machine}
 use Rattle.chv_defs_control.specs.ApiStep.{reply_to, after}
-use Rattle.chv_defs_control.specs.ControlBook.{full_at}
+use Rattle.chv_defs_control.specs.FullBooks.{first_full}
+use Rattle.chv_defs_control.specs.OwnerCalls.{owner_calls}
+use Rattle.chv_defs_memory.specs.BankState.{banks}
+use Rattle.chv_defs_memory.specs.MadeCalls.{at_rest, with_calls}
+use Rattle.chv_defs_memory.specs.Zones.{most_zones, Known}
+use Rattle.chv_defs.specs.LegalTrace.{entries_in}
+use Rattle.chv_defs.specs.declared.trace.BankTrace.{BankTrace}
 use Rattle.chv_defs_scene.specs.SceneText.{request_bytes}
 use Rattle.chv_defs_api.specs.SessionBytes.{asks_for, session_limit}
 use Rattle.chv_defs_api.specs.StreamCut.{cut}
@@ -139,15 +145,29 @@ all_turns visits = flat_map (round_of visits) (range_with_len 0 (rounds_of visit
 
 -- ---- what comes of the turns
 
--- the control state, the history that led to it, and the replies so far, each with its session's number
+-- the control state, the history that led to it, all banks with their histories, zones and banks ascending, and the replies so
+-- far, each with its session's number
 pub record Stage : Type 0 where
   pub machine : Machine
   pub history : List ControlEntry
+  pub banks : List BankTrace
   pub replies : List (ℕ × List ℕ)
+
+-- the banks of a zone, to which nothing happened yet
+abbrev pub fresh_zone : ℕ → List BankTrace
+fresh_zone zone = map (λ bank. record { zone = zone; bank = bank; entries = [] }) (range_with_len 0 banks)
+
+-- all banks, to which nothing happened yet
+abbrev pub fresh_banks : List BankTrace
+fresh_banks = flat_map fresh_zone (range_with_len 0 most_zones)
 
 -- before the first turn
 abbrev pub first_stage : Stage
-first_stage = record { machine = empty_machine; history = []; replies = [] }
+first_stage = record { machine = empty_machine; history = []; banks = fresh_banks; replies = [] }
+
+-- what the owner knows of a bank among these: all of its history, and that it is at rest
+abbrev pub known_in : List BankTrace → ℕ → ℕ → Known
+known_in banks zone bank = at_rest (entries_in banks zone bank)
 
 -- with a reply
 abbrev pub with_reply : ℕ → List ℕ → Stage → Stage
@@ -157,27 +177,37 @@ with_reply session bytes s = record s { replies = s.replies ++ (session, bytes) 
 abbrev pub entry_of : List OnShelf → Stage → ℕ → ControlCall → ControlEntry
 entry_of shelf s session c = record { caller = session; call = c; reply = reply_to shelf s.machine c }
 
--- with that entry
+-- a bank with the entries of the owner's calls that a control entry of this machine stands for
+abbrev pub with_owner : Machine → ControlEntry → BankTrace → BankTrace
+with_owner m e bank =
+    record bank { entries = with_calls bank.bank bank.entries (owner_calls m e.call e.reply bank.zone bank.bank) }
+
+-- with that entry, and the entries of the owner's calls in the banks that it stands for
 abbrev pub with_entry : List OnShelf → ℕ → ControlCall → Stage → Stage
 with_entry shelf session c s = record s {
   machine = after s.machine session c (reply_to shelf s.machine c);
   history = s.history ++ entry_of shelf s session c ∷ [];
+  banks = map (with_owner s.machine (entry_of shelf s session c)) s.banks;
 }
+
+-- the first book that is full for that entry, where one is
+abbrev pub full_for : List OnShelf → Stage → ℕ → ControlCall → Option Full
+full_for shelf s session c = first_full s.machine s.history (known_in s.banks) (entry_of shelf s session c)
 
 -- a refusal, or else a stage
 abbrev pub unless_full : Option Full → Stage → Result Stage Full
 unless_full None s = Ok s
 unless_full (Some full) s = Err full
 
--- What comes of a turn: the entry of its call, where it makes one and the book is not full, and its reply. (No call is
+-- What comes of a turn: the entry of its call, where it makes one and no book is full for it, and its reply. (No call is
 -- answered Holding so far, so that none is settled.)
 abbrev pub after_turn : List OnShelf → Stage → ℕ → Turn → Result Stage Full
 after_turn shelf s session (Answers (Err rule) last) = Ok (with_reply session (refusal_bytes rule last) s)
 after_turn shelf s session (Answers (Ok c) last) =
-    unless_full (full_at s.machine s.history (entry_of shelf s session c))
+    unless_full (full_for shelf s session c)
     (with_reply session (reply_to_call c (reply_to shelf s.machine c) last) (with_entry shelf session c s))
 after_turn shelf s session (Leaves how) =
-    unless_full (full_at s.machine s.history (entry_of shelf s session call.Bye)) (with_entry shelf session call.Bye s)
+    unless_full (full_for shelf s session call.Bye) (with_entry shelf session call.Bye s)
 
 -- goes on from a stage, unless a book was full
 abbrev pub then_from : Result Stage Full → (Stage → Result Stage Full) → Result Stage Full
@@ -212,13 +242,17 @@ log_of s visit = record {
   };
 }
 
--- the trace of a run of sessions alone: no disk is made, no vCPU has a script, and no bank has an entry
+-- whether a bank has entries
+abbrev pub has_entries : BankTrace → Bool
+has_entries bank = nat_lt 0 (length bank.entries)
+
+-- the trace of a run of sessions alone: no disk is made, and no vCPU has a script; its banks are those that have entries
 abbrev pub trace_at : List (List ℕ) → Stage → Trace
 trace_at streams s = record {
   disks = [];
   vcpus = [];
   control = s.history;
-  banks = [];
+  banks = filter has_entries s.banks;
   sessions = map (log_of s) (numbered (map (λ stream. (stream, visit_of stream)) streams));
 }
 

@@ -1,7 +1,8 @@
 -- The calls of the API on a machine that is not booted, or that runs and has no device: by which rule a call is refused, what
 -- it is answered, and what it leaves. The calls are those of the Cloud Hypervisor REST API v1; the rules and their order are
--- this project's own. Not built yet are a boot, a restore, and the pause of a machine that runs, its resizing and the adding of
--- a disk to it: where none of their rules holds, they are refused as NotBuilt.
+-- this project's own. Not built yet are the boot of a machine with a device (a disk, or a zone that grows), a restore, and the
+-- pause of a machine that runs, its resizing and the adding of a disk to it: where none of their rules holds, they are refused
+-- as NotBuilt.
 use Rattle.std.specs.Prelude.{ℕ, ◌+◌, ◌==◌, ◌&&◌, ◌||◌, Bool, true, false, not, nat_le, nat_lt, List, [], ◌∷◌, ◌++◌, length, map, filter, find, Option, Some, None, is_some, unwrap_or, if◌then◌else◌}
 use Rattle.std.specs.Str.{bytes_eq}
 use Rattle.chv_defs_control.specs.declared.machine.Machine.{Machine}
@@ -74,6 +75,10 @@ now_of m = unwrap_or m.config (checked_of default_config)
 abbrev pub device_count : Checked → ℕ
 device_count now = length (filter grows now.zones) + length now.config.disks
 
+-- a configuration has a device
+abbrev pub has_devices : Checked → Bool
+has_devices now = nat_lt 0 (device_count now)
+
 -- all 31 slots for devices would be used at boot
 abbrev pub has_full_slots : Checked → Bool
 has_full_slots now = nat_le 31 (device_count now)
@@ -118,7 +123,7 @@ rules_of shelf m call.Boot =
     (is_uncreated m, NotCreated)
     ∷ (is_on_hold m.life, Held)
     ∷ (is_running_or_paused m.life, AlreadyBooted)
-    ∷ (true, NotBuilt)
+    ∷ (has_devices (now_of m), NotBuilt)
     ∷ []
 rules_of shelf m (call.Begin Pause) =
     (is_uncreated m, NotCreated)
@@ -224,6 +229,7 @@ with_new_disk now disk = with_disk now (with_id (device_ids now) disk)
 -- What a call leaves, with its answer. A call that is refused leaves the state as it was, and so does one that only asks.
 abbrev pub after : Machine → ℕ → ControlCall → ControlReply → Machine
 after m caller (call.Create config) reply.Done = record m { life = life.Created; config = Some (checked_of config) }
+after m caller call.Boot reply.Done = record m { life = life.Running }
 after m caller (call.Begin Shutdown) reply.Done = record m { life = life.Shutdown }
 after m caller (call.Begin Delete) reply.Done = record m { life = life.None; config = None }
 after m caller (call.AddDisk disk) reply.Done = record m { config = Some (with_new_disk (now_of m) disk) }

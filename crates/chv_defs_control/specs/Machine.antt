@@ -17,8 +17,7 @@ AreSessionsAbove low [] = Unit {0}
 AreSessionsAbove low (caller ∷ callers) = (low < caller) × (caller ≤ 16) × AreSessionsAbove caller callers
 
 -- There is no machine, or it was created, runs, or was shut down. A pause is not built yet, so that none is paused; and no
--- context is ever out, so that none waits for a pause, a shutdown or a delete. (No call leads to a machine that runs yet, as a
--- boot is not built.)
+-- context is ever out, so that none waits for a pause, a shutdown or a delete.
 abbrev pub IsUnpaused : Life → Type 0
 IsUnpaused life.None = Unit {0}
 IsUnpaused life.Created = Unit {0}
@@ -26,7 +25,7 @@ IsUnpaused life.Running = Unit {0}
 IsUnpaused life.Shutdown = Unit {0}
 IsUnpaused _ = ⊥
 
--- A machine that runs has no device: no zone in effect grows, and there is no disk. Placing devices is not built yet.
+-- A machine that runs has no device: no zone in effect grows, and there is no disk. Placing devices at a boot is not built yet.
 abbrev pub RunsBare : Life → Option Checked → Type 0
 RunsBare life.Running (Some checked) = device_count checked ≡ 0
 RunsBare _ _ = Unit {0}

@@ -1,21 +1,30 @@
 -- The owner's calls that a control entry stands for: what it makes the owner of the memory, which is the control value, do in
--- each bank. So far these are the calls of a boot, and of a shutdown and a delete that reach their goal at once.
-use Rattle.std.specs.Prelude.{ℕ, if◌then◌else◌, List, [], ◌∷◌, slice_get, Option, None, Some}
+-- each bank; and the link between the control history and the banks that this makes. So far these are the calls of a boot, and
+-- of a shutdown and a delete that reach their goal at once.
+use Rattle.std.specs.Prelude.{◌≡◌, ℕ, false, nat_lt, if◌then◌else◌, List, [], ◌∷◌, ◌++◌, map, slice_get, Option, None, Some}
+use Rattle.std.specs.List.{range_with_len}
 use Rattle.chv_defs_control.specs.declared.machine.Machine.{Machine}
 use Rattle.chv_defs_control.specs.declared.machine.Life.{Life}
 use Rattle.chv_defs_api.specs.declared.config.Checked.{Checked}
 use Rattle.chv_defs_api.specs.declared.config.ZoneConfig.{ZoneConfig}
 use Rattle.chv_defs_memory.specs.declared.bank.BankCall.{BankCall}
 use Rattle.chv_defs_memory.specs.declared.bank.BankCall.TheVariants as bank_call
+use Rattle.chv_defs_memory.specs.declared.bank.BankEntry.{BankEntry}
+use Rattle.chv_defs_memory.specs.declared.bank.Refusal.{Refusal}
 use Rattle.chv_defs_api.specs.declared.control.Goal.TheVariants.{Shutdown, Delete}
 use Rattle.chv_defs_api.specs.declared.control.ControlCall.{ControlCall}
 use Rattle.chv_defs_api.specs.declared.control.ControlCall.TheVariants as call
 use Rattle.chv_defs_api.specs.declared.control.ControlReply.{ControlReply}
 use Rattle.chv_defs_api.specs.declared.control.ControlReply.TheVariants as reply
-use Rattle.chv_defs_control.specs.ApiStep.{is_paused}
+use Rattle.chv_defs_api.specs.declared.control.ControlEntry.{ControlEntry}
+use Rattle.chv_defs_control.specs.Machine.{empty_machine}
+use Rattle.chv_defs_control.specs.ApiStep.{after, is_paused}
 use Rattle.chv_defs_base.specs.Sizes.{blocks_in}
-use Rattle.chv_defs_memory.specs.BankBook.{owner_reply, with_entry}
-use Rattle.chv_defs_memory.specs.Zones.{Known}
+use Rattle.chv_defs_memory.specs.BankState.{is_open}
+use Rattle.chv_defs_memory.specs.MadeCalls.{at_rest, owned, wanted_refusal, AreMade}
+use Rattle.chv_defs_memory.specs.Zones.{first_due, most_zones, IsBank, Known, OnlySeesMore}
+
+-- ---- the calls of one entry
 
 -- the zones in effect of a configuration that may be there
 abbrev pub zones_in : Option Checked → List ZoneConfig
@@ -26,31 +35,77 @@ zones_in (Some checked) = checked.zones
 abbrev pub zones_of : Machine → List ZoneConfig
 zones_of m = zones_in m.config
 
--- The banks are wiped, and where the machine is paused, so that they are frozen, they are thawed before.
+-- The banks are wiped. They are frozen exactly where the machine is paused (a pause freezes the banks of the zones in effect,
+-- and a resume thaws them), and are thawed before then.
 abbrev pub wiping : Life → List BankCall
 wiping life = if is_paused life then bank_call.Thaw ∷ bank_call.Wipe ∷ [] else bank_call.Wipe ∷ []
 
--- The owner's calls in each bank of a zone in effect, by the life before the control call and by its answer: a boot that is done
--- opens the zone's boot blocks, and a shutdown or a delete that is done wipes the banks. No other call asks for any so far, and
--- a refused one never does.
-abbrev pub calls_in : Life → ZoneConfig → ℕ → ControlCall → ControlReply → List BankCall
-calls_in life zone bank call.Boot reply.Done = bank_call.Shape (blocks_in zone.size) ∷ []
-calls_in life zone bank (call.Begin Shutdown) reply.Done = wiping life
-calls_in life zone bank (call.Begin Delete) reply.Done = wiping life
-calls_in life zone bank _ _ = []
+-- The owner's calls in a bank of a zone in effect, by the machine before the control call, the zone's configuration and number,
+-- and the call's answer: a boot that is done opens the zone's boot blocks, and a shutdown or a delete that is done wipes the
+-- bank. No other call asks for any so far, and a refused one never does. (So far they are the same in each bank of a zone.)
+abbrev pub calls_in : Machine → ZoneConfig → ℕ → ℕ → ControlCall → ControlReply → List BankCall
+calls_in m config zone bank call.Boot reply.Done = bank_call.Shape (blocks_in config.size) ∷ []
+calls_in m config zone bank (call.Begin Shutdown) reply.Done = wiping m.life
+calls_in m config zone bank (call.Begin Delete) reply.Done = wiping m.life
+calls_in m config zone bank _ _ = []
 
 -- the owner's calls where there is such a zone; in a zone that is not in effect there are none
-abbrev pub calls_where : Option ZoneConfig → Life → ℕ → ControlCall → ControlReply → List BankCall
-calls_where None life bank c r = []
-calls_where (Some zone) life bank c r = calls_in life zone bank c r
+abbrev pub calls_where : Option ZoneConfig → Machine → ℕ → ℕ → ControlCall → ControlReply → List BankCall
+calls_where None m zone bank c r = []
+calls_where (Some config) m zone bank c r = calls_in m config zone bank c r
 
--- The owner's calls in a bank of the zone of this number, for a control call that is answered so by this control state. (So far
--- they are the same in each bank of a zone.)
+-- The owner's calls in a bank, by the zone's and the bank's number, for a control call that this machine answers so.
 abbrev pub owner_calls : Machine → ControlCall → ControlReply → ℕ → ℕ → List BankCall
-owner_calls m c r zone bank = calls_where (slice_get (zones_of m) zone) m.life bank c r
+owner_calls m c r zone bank = calls_where (slice_get (zones_of m) zone) m zone bank c r
 
--- a bank with the entries of these calls of the owner, one after another, and no others in between
-abbrev pub with_calls : ℕ → Known → List BankCall → Known
-with_calls bank known [] = known
-with_calls bank known (c ∷ calls) =
-    with_calls bank (record known { history = with_entry known.history 0 c (owner_reply bank known.history c) }) calls
+-- ---- the link
+
+-- the owner's calls in a bank for a whole history of control entries, the first of which this machine answers
+abbrev pub calls_for : Machine → List ControlEntry → ℕ → ℕ → List BankCall
+calls_for m [] zone bank = []
+calls_for m (e ∷ history) zone bank =
+    owner_calls m e.call e.reply zone bank ++ calls_for (after m e.caller e.call e.reply) history zone bank
+
+-- The owner link: in each bank of each of the zones that there can be, in effect or not, the calls of the owner are, in order,
+-- exactly those that the control history asks for.
+abbrev pub IsLinked : List ControlEntry → (ℕ → ℕ → List BankEntry) → Type 0
+IsLinked history banks = (zone bank : ℕ) → IsBank zone bank → owned (banks zone bank) ≡ calls_for empty_machine history zone bank
+
+-- ---- what an entry leaves in the banks
+
+-- In a bank of a zone in effect the owner's calls were made, and it is at rest; of any other the owner may see more.
+abbrev pub IsLeft : Option ZoneConfig → List ℕ → ℕ → Known → List BankCall → Known → Type 0
+IsLeft None lent bank before calls after = OnlySeesMore lent before after
+IsLeft (Some config) lent bank before calls after =
+    AreMade lent bank before.history calls after.history × (after ≡ at_rest after.history)
+
+-- In each bank exactly the owner's calls were made that this control call, answered so, stands for; no place is left reserved
+-- in the zones in effect but that of the Thaw of a bank that is frozen.
+abbrev pub HaveTheCalls : List ℕ → Machine → ControlCall → ControlReply → (ℕ → ℕ → Known) → (ℕ → ℕ → Known) → Type 0
+HaveTheCalls lent m c r before after =
+    (zone bank : ℕ) → IsBank zone bank
+    → IsLeft (slice_get (zones_of m) zone) lent bank (before zone bank) (owner_calls m c r zone bank) (after zone bank)
+
+-- The refusal of the room that a control call, answered so, wants in the banks, where one is due: that of the lowest bank of the
+-- lowest zone that has no such room.
+abbrev pub room_refusal_for : Machine → ControlCall → ControlReply → (ℕ → ℕ → Known) → Option Refusal
+room_refusal_for m c r known =
+    first_due (map (λ zone. wanted_refusal zone (known zone) (owner_calls m c r zone)) (range_with_len 0 most_zones))
+
+-- ---- laws
+
+-- The law of a boot: behind its calls exactly the boot blocks of each zone in effect are open, of the blocks of each bank.
+abbrev pub BootOpensTheBootBlocks : Type 0
+BootOpensTheBootBlocks =
+    (lent : List ℕ) (m : Machine) (config : ZoneConfig) (zone bank block : ℕ) (before after : List BankEntry)
+    → slice_get (zones_of m) zone ≡ Some config
+    → AreMade lent bank before (owner_calls m call.Boot reply.Done zone bank) after
+    → is_open bank after block ≡ nat_lt block (blocks_in config.size)
+
+-- The law of a wipe: behind the calls of a shutdown or a delete no block of a bank of a zone in effect is open.
+abbrev pub WipeClosesAll : Type 0
+WipeClosesAll =
+    (lent : List ℕ) (m : Machine) (config : ZoneConfig) (zone bank block : ℕ) (before after : List BankEntry)
+    → slice_get (zones_of m) zone ≡ Some config
+    → AreMade lent bank before (owner_calls m (call.Begin Delete) reply.Done zone bank) after
+    → is_open bank after block ≡ false

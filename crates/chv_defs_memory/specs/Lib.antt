@@ -3,5 +3,6 @@ pub mod BankState
 pub mod BlockSets
 pub mod LastByte
 pub mod LegalBank
+pub mod MadeCalls
 pub mod PageContents
 pub mod Zones
