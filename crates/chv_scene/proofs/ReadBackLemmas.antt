@@ -9,6 +9,7 @@ use Rattle.chv_defs_scene.specs.SceneText.{request_line, session_section}
 use Rattle.chv_defs_scene.specs.declared.scene.Asked.{Asked}
 use Rattle.chv_defs_scene.specs.declared.scene.Asked.TheVariants as asked
 use Rattle.chv_defs_base.specs.declared.rule.Reason.TheVariants.{BadName, FieldCount, TooMany}
+use Rattle.chv_num.proofs.PairBytes.{pairs_digits, byte_at}
 use Rattle.chv_num.proofs.PairSpelling.{pairs_read_back}
 use Rattle.chv_scene.proofs.GrammarLemmas.{no_feed, are_requests, all_requests}
 
@@ -76,23 +77,6 @@ name_no_feed name h = all_so is_route_byte (λ b. not (b == 10)) (λ b is. other
 
 name_no_space : (name : List ℕ) → is_route_name name ≡ true → no_space name ≡ true
 name_no_space name h = all_so is_route_byte (λ b. not (b == 32)) (λ b is. other_byte is_route_byte 32 b refl is) name (name_parts name h)
-
-glyph_digit : (d : ℕ) → d < 16 → is_hex_digit (digit_glyph false d) ≡ true
-glyph_digit d h = agree_below_at (λ d. is_hex_digit (digit_glyph false d)) (λ _. true) 16 d refl h
-
-pairs_digits : (bytes : List ℕ) → list_all (λ b. nat_lt b 256) bytes ≡ true → list_all is_hex_digit (pairs bytes) ≡ true
-pairs_digits [] h = refl
-pairs_digits (b ∷ bytes) h =
-    let parts = and_parts (nat_lt b 256) (list_all (λ b. nat_lt b 256) bytes) h in
-    let byte = ltb-true b 256 parts.0 in
-    let high : b / 16 < 16 = omega (arith, byte) in
-    let low : b % 16 < 16 = omega arith in
-    and_from _ _ (glyph_digit (b / 16) high) (and_from _ _ (glyph_digit (b % 16) low) (pairs_digits bytes parts.1))
-
-byte_at : (bytes : List ℕ) → list_all (λ b. nat_lt b 256) bytes ≡ true → (i : ℕ) → get_or bytes i 0 < 256
-byte_at [] h i = omega arith
-byte_at (b ∷ bytes) h zero = ltb-true b 256 (and_parts (nat_lt b 256) (list_all (λ b. nat_lt b 256) bytes) h).0
-byte_at (b ∷ bytes) h (suc i) = byte_at bytes (and_parts (nat_lt b 256) (list_all (λ b. nat_lt b 256) bytes) h).1 i
 
 -- ---- the line of a request
 

@@ -47,12 +47,6 @@ only_field (b ∷ bytes) h =
     cond-false (b == 32) ([] ∷ fields_of bytes) (onto_first b (fields_of bytes)) (not_is (b == 32) parts.0)
     ∙ ap (onto_first b) (only_field bytes parts.1)
 
--- no space stands before the next byte, nor is it one
-pub no_space_next : (text : List ℕ) (i : ℕ) → i < length text → no_space (take i text) ≡ true → (get_or text i 0 == 32) ≡ false → no_space (take (i + 1) text) ≡ true
-no_space_next text i h before next =
-    ap no_space (take_at_read text i 0 h).1 ∙ (list_all-append (λ b. not (b == 32)) (take i text) (get_or text i 0 ∷ [])
-    ∙ and_from _ _ before (and_from _ _ (ap not next) refl))
-
 -- the next byte is a space
 pub field_at : (text : List ℕ) (i : ℕ) → i < length text → no_space (take i text) ≡ true → get_or text i 0 ≡ 32 → fields_of text ≡ take i text ∷ fields_of (drop (i + 1) text)
 field_at text i h before next =

@@ -24,20 +24,6 @@ jumps_away labels script = list_any (λ l. is_missing labels (target l)) script
 
 -- ---- labels that stand twice
 
-shuffle : (a b c d : Bool) → ((a || (b || false)) || (c || d)) ≡ ((a || c) || (b || d))
-shuffle true b c d = refl
-shuffle false true true d = refl
-shuffle false true false d = refl
-shuffle false false true d = refl
-shuffle false false false d = refl
-
--- one label more at the end
-twice-snoc : (labels : List (List ℕ)) (name : List ℕ) → has_label_twice (labels ++ name ∷ []) ≡ (has_label_twice labels || has_label labels name)
-twice-snoc [] name = refl
-twice-snoc (x ∷ labels) name =
-    rw (list_any-append (bytes_eq x) labels (name ∷ []), twice-snoc labels name, bytes_eq_comm name x)
-    (shuffle (has_label labels x) (bytes_eq x name) (has_label_twice labels) (has_label labels name))
-
 or_none : (a b : Bool) → (a || b) ≡ false → (a ≡ false) × (b ≡ false)
 or_none true b h = absurd (cc)
 or_none false b h = (refl, h)
@@ -46,26 +32,36 @@ both_none : (a b : Bool) → a ≡ false → b ≡ false → (a || b) ≡ false
 both_none true b h g = absurd (cc)
 both_none false b h g = g
 
--- where none stands twice, none stands twice in a beginning
-twice-front : (labels more : List (List ℕ)) → has_label_twice (labels ++ more) ≡ false → has_label_twice labels ≡ false
-twice-front [] more h = refl
-twice-front (x ∷ labels) more h =
-    let parts = or_none (has_label (labels ++ more) x) (has_label_twice (labels ++ more)) h in
-    let here = or_none (has_label labels x) (has_label more x) (sym (list_any-append (bytes_eq x) labels more) ∙ parts.0) in
-    both_none _ _ here.0 (twice-front labels more parts.1)
+-- a label that is none of some labels with one more among them
+none_among : (labels : List (List ℕ)) (name : List ℕ) (more : List (List ℕ)) (x : List ℕ) → has_label (labels ++ name ∷ more) x ≡ false → (has_label labels x ≡ false) × (bytes_eq x name ≡ false)
+none_among labels name more x h =
+    let parts = or_none (has_label labels x) (has_label (name ∷ more) x) (sym (list_any-append (bytes_eq x) labels (name ∷ more)) ∙ h) in
+    (parts.0, (or_none (bytes_eq x name) (has_label more x) parts.1).0)
 
--- nor is a label one of those before it
+-- where none stands twice, a label is none of those before it
+once_among : (labels : List (List ℕ)) (name : List ℕ) (more : List (List ℕ)) → has_label_twice (labels ++ name ∷ more) ≡ false → has_label labels name ≡ false
+once_among [] name more h = refl
+once_among (x ∷ labels) name more h =
+    let parts = or_none (has_label (labels ++ name ∷ more) x) (has_label_twice (labels ++ name ∷ more)) h in
+    both_none _ _ (bytes_eq_comm name x ∙ (none_among labels name more x parts.0).1) (once_among labels name more parts.1)
+
 first_time : (labels : List (List ℕ)) (own : Option (List ℕ)) (more : List (List ℕ)) → has_label_twice (labels ++ cons_option own more) ≡ false → is_there labels own ≡ false
 first_time labels None more h = refl
-first_time labels (Some name) more h =
-    let regrouped : (labels ++ name ∷ []) ++ more ≡ labels ++ name ∷ more = append_assoc labels (name ∷ []) more in
-    let front = twice-front (labels ++ name ∷ []) more (ap has_label_twice regrouped ∙ h) in
-    (or_none (has_label_twice labels) (has_label labels name) (sym (twice-snoc labels name) ∙ front)).1
+first_time labels (Some name) more h = once_among labels name more h
 
--- one that was not there
+-- a label more that was not there
+one_more : (labels : List (List ℕ)) (name : List ℕ) → has_label_twice labels ≡ false → has_label labels name ≡ false → has_label_twice (labels ++ name ∷ []) ≡ false
+one_more [] name h g = refl
+one_more (x ∷ labels) name h g =
+    let parts = or_none (has_label labels x) (has_label_twice labels) h in
+    let new = or_none (bytes_eq name x) (has_label labels name) g in
+    both_none _ _
+    (list_any-append (bytes_eq x) labels (name ∷ []) ∙ both_none _ _ parts.0 (both_none _ _ (bytes_eq_comm x name ∙ new.0) refl))
+    (one_more labels name parts.1 new.1)
+
 once-next : (labels : List (List ℕ)) (own : Option (List ℕ)) → has_label_twice labels ≡ false → is_there labels own ≡ false → has_label_twice (labels ++ cons_option own []) ≡ false
 once-next labels None h g = ap has_label_twice (append-nil labels) ∙ h
-once-next labels (Some name) h g = twice-snoc labels name ∙ both_none _ _ h g
+once-next labels (Some name) h g = one_more labels name h g
 
 -- ---- what is wrong with labels
 

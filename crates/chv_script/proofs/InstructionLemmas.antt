@@ -17,7 +17,8 @@ use Rattle.chv_defs_scene.specs.ScriptText.{register, operation, line_text}
 use Rattle.chv_defs_scene.specs.ScriptReading.{fields_of, register_of, port_width_of, value_of, port_of, put_bytes_of, name_of, with_none, with_one, with_two, with_three, with_four, jump_of, access_of, math_of, instruction_of, by_fields, line_of, label_in, own_label, is_register, is_port_width, is_port, is_put, is_instruction}
 use Rattle.chv_script.proofs.FieldLemmas.{no_space}
 use Rattle.chv_script.proofs.KindLemmas.{registers, memory_widths, port_widths, values, ports, names}
-use Rattle.chv_script.proofs.PutLemmas.{are_bytes, is_stored, puts}
+use Rattle.chv_num.proofs.PairBytes.{are_bytes}
+use Rattle.chv_script.proofs.PutLemmas.{is_stored, puts}
 use Rattle.chv_script.proofs.PartLemmas.{is_value, parts, parts_joined, fields_joined}
 use Rattle.chv_script.proofs.ShapeLemmas.{Spelled, none_spelled, one_spelled, one_again, two_spelled, two_again, three_spelled, three_again, four_spelled, four_again}
 
@@ -34,24 +35,24 @@ by_word word other fields l this rest here there e = choose (bytes_eq word other
 -- two registers and a third, by the operation
 math_spelled : (o : MathOp) (fields : List (List ℕ)) (l : Line) → with_three register_of register_of register_of (line.Math o) fields ≡ Ok l → Spelled (operation o ∷ fields) l
 math_spelled o fields l e =
-    three_spelled register_of register is_register registers register_of register is_register registers (line.Math o) (operation o) fields l
+    three_spelled registers registers (line.Math o) (operation o) fields l
     (λ x r y a b c. (refl, and_from _ _ (and_from _ _ a b) c)) e
 
 jump_spelled : (word : List ℕ) (fields : List (List ℕ)) (l : Line) → jump_of word fields ≡ Ok l → Spelled (word ∷ fields) l
 jump_spelled word fields l =
-    by_word word (codes "jmp") fields l (with_one name_of line.Jmp fields) _ (one_spelled name_of (λ name. name) is_id names line.Jmp (codes "jmp") fields l (λ x a. (refl, a))) (
-    by_word word (codes "jz") fields l (with_two register_of name_of line.Jz fields) _ (two_spelled register_of register is_register registers name_of (λ name. name) is_id names line.Jz (codes "jz") fields l (λ x y a b. (refl, and_from _ _ a b))) (
-    by_word word (codes "jnz") fields l (with_two register_of name_of line.Jnz fields) _ (two_spelled register_of register is_register registers name_of (λ name. name) is_id names line.Jnz (codes "jnz") fields l (λ x y a b. (refl, and_from _ _ a b))) (
-    by_word word (codes "jlt") fields l (with_three register_of register_of name_of line.Jlt fields) (Err UnknownWord) (three_spelled register_of register is_register registers name_of (λ name. name) is_id names line.Jlt (codes "jlt") fields l (λ x r y a b c. (refl, and_from _ _ (and_from _ _ a b) c))) (
+    by_word word (codes "jmp") fields l (with_one name_of line.Jmp fields) _ (one_spelled names line.Jmp (codes "jmp") fields l (λ x a. (refl, a))) (
+    by_word word (codes "jz") fields l (with_two register_of name_of line.Jz fields) _ (two_spelled registers names line.Jz (codes "jz") fields l (λ x y a b. (refl, and_from _ _ a b))) (
+    by_word word (codes "jnz") fields l (with_two register_of name_of line.Jnz fields) _ (two_spelled registers names line.Jnz (codes "jnz") fields l (λ x y a b. (refl, and_from _ _ a b))) (
+    by_word word (codes "jlt") fields l (with_three register_of register_of name_of line.Jlt fields) (Err UnknownWord) (three_spelled registers names line.Jlt (codes "jlt") fields l (λ x r y a b c. (refl, and_from _ _ (and_from _ _ a b) c))) (
     λ e. absurd (cc)))))
 
 access_spelled : (word : List ℕ) (fields : List (List ℕ)) (l : Line) → access_of word fields ≡ Ok l → Spelled (word ∷ fields) l
 access_spelled word fields l =
     by_word word (codes "ld") fields l (with_four line.Ld fields) _ (four_spelled line.Ld (codes "ld") fields l (λ w r s n a. (refl, a))) (
     by_word word (codes "st") fields l (with_four line.St fields) _ (four_spelled line.St (codes "st") fields l (λ w r s n a. (refl, a))) (
-    by_word word (codes "put") fields l (with_two register_of put_bytes_of line.Put fields) _ (two_spelled register_of register is_register registers put_bytes_of pairs is_stored puts line.Put (codes "put") fields l (λ x y a b. (refl, stored x y a b))) (
-    by_word word (codes "in") fields l (with_three port_width_of register_of port_of line.In fields) _ (three_spelled port_width_of dec_text is_port_width port_widths port_of hex_text is_port ports line.In (codes "in") fields l (λ x r y a b c. (refl, and_from _ _ (and_from _ _ a b) c))) (
-    by_word word (codes "out") fields l (with_three port_width_of register_of port_of line.Out fields) _ (three_spelled port_width_of dec_text is_port_width port_widths port_of hex_text is_port ports line.Out (codes "out") fields l (λ x r y a b c. (refl, and_from _ _ (and_from _ _ a b) c))) (
+    by_word word (codes "put") fields l (with_two register_of put_bytes_of line.Put fields) _ (two_spelled registers puts line.Put (codes "put") fields l (λ x y a b. (refl, stored x y a b))) (
+    by_word word (codes "in") fields l (with_three port_width_of register_of port_of line.In fields) _ (three_spelled port_widths ports line.In (codes "in") fields l (λ x r y a b c. (refl, and_from _ _ (and_from _ _ a b) c))) (
+    by_word word (codes "out") fields l (with_three port_width_of register_of port_of line.Out fields) _ (three_spelled port_widths ports line.Out (codes "out") fields l (λ x r y a b c. (refl, and_from _ _ (and_from _ _ a b) c))) (
     jump_spelled word fields l)))))
   where
     stored : (ra : ℕ) (bytes : List ℕ) → is_register ra ≡ true → is_stored bytes ≡ true → (is_register ra && is_put bytes && are_bytes bytes) ≡ true
@@ -68,9 +69,9 @@ all_math_spelled word fields l =
 
 instruction_spelled : (word : List ℕ) (fields : List (List ℕ)) (l : Line) → instruction_of word fields ≡ Ok l → Spelled (word ∷ fields) l
 instruction_spelled word fields l =
-    by_word word (codes "at") fields l (with_one name_of line.At fields) _ (one_spelled name_of (λ name. name) is_id names line.At (codes "at") fields l (λ x a. (refl, a))) (
-    by_word word (codes "set") fields l (with_two register_of value_of line.Set fields) _ (two_spelled register_of register is_register registers value_of hex_text is_value values line.Set (codes "set") fields l (λ x y a b. (refl, and_from _ _ a b))) (
-    by_word word (codes "mov") fields l (with_two register_of register_of line.Mov fields) _ (two_spelled register_of register is_register registers register_of register is_register registers line.Mov (codes "mov") fields l (λ x y a b. (refl, and_from _ _ a b))) (
+    by_word word (codes "at") fields l (with_one name_of line.At fields) _ (one_spelled names line.At (codes "at") fields l (λ x a. (refl, a))) (
+    by_word word (codes "set") fields l (with_two register_of value_of line.Set fields) _ (two_spelled registers values line.Set (codes "set") fields l (λ x y a b. (refl, and_from _ _ a b))) (
+    by_word word (codes "mov") fields l (with_two register_of register_of line.Mov fields) _ (two_spelled registers registers line.Mov (codes "mov") fields l (λ x y a b. (refl, and_from _ _ a b))) (
     by_word word (codes "halt") fields l (with_none line.Halt fields) _ (none_spelled line.Halt l (codes "halt") fields (refl, refl)) (
     all_math_spelled word fields l))))
 
@@ -93,12 +94,12 @@ both a b c h = let last = and_parts (a && b) c h in let first = and_parts a b la
 math_again : (o : MathOp) (rd ra rb : ℕ) → is_instruction (line.Math o rd ra rb) ≡ true → with_three register_of register_of register_of (line.Math o) (register rd ∷ register ra ∷ register rb ∷ []) ≡ Ok (line.Math o rd ra rb)
 math_again o rd ra rb h =
     let p = both (is_register rd) (is_register ra) (is_register rb) h in
-    three_again register_of register is_register registers register_of register is_register registers (line.Math o) rd ra rb p.0 p.1 p.2
+    three_again registers registers (line.Math o) rd ra rb p.0 p.1 p.2
 
 parts_again : (l : Line) → is_instruction l ≡ true → by_fields (parts l) ≡ Ok l
-parts_again (line.At name) h = one_again name_of (λ name. name) is_id names line.At name h
-parts_again (line.Set rd value) h = let p = and_parts (is_register rd) (is_value value) h in two_again register_of register is_register registers value_of hex_text is_value values line.Set rd value p.0 p.1
-parts_again (line.Mov rd ra) h = let p = and_parts (is_register rd) (is_register ra) h in two_again register_of register is_register registers register_of register is_register registers line.Mov rd ra p.0 p.1
+parts_again (line.At name) h = one_again names line.At name h
+parts_again (line.Set rd value) h = let p = and_parts (is_register rd) (is_value value) h in two_again registers values line.Set rd value p.0 p.1
+parts_again (line.Mov rd ra) h = let p = and_parts (is_register rd) (is_register ra) h in two_again registers registers line.Mov rd ra p.0 p.1
 parts_again (line.Math op.Add rd ra rb) h = math_again op.Add rd ra rb h
 parts_again (line.Math op.Sub rd ra rb) h = math_again op.Sub rd ra rb h
 parts_again (line.Math op.And rd ra rb) h = math_again op.And rd ra rb h
@@ -106,13 +107,13 @@ parts_again (line.Math op.Or rd ra rb) h = math_again op.Or rd ra rb h
 parts_again (line.Math op.Xor rd ra rb) h = math_again op.Xor rd ra rb h
 parts_again (line.Ld width rd ra offset) h = four_again line.Ld width rd ra offset h
 parts_again (line.St width rs ra offset) h = four_again line.St width rs ra offset h
-parts_again (line.Put ra bytes) h = let p = both (is_register ra) (is_put bytes) (are_bytes bytes) h in two_again register_of register is_register registers put_bytes_of pairs is_stored puts line.Put ra bytes p.0 (and_from _ _ p.1 p.2)
-parts_again (line.In width rd port) h = let p = both (is_port_width width) (is_register rd) (is_port port) h in three_again port_width_of dec_text is_port_width port_widths port_of hex_text is_port ports line.In width rd port p.0 p.1 p.2
-parts_again (line.Out width rs port) h = let p = both (is_port_width width) (is_register rs) (is_port port) h in three_again port_width_of dec_text is_port_width port_widths port_of hex_text is_port ports line.Out width rs port p.0 p.1 p.2
-parts_again (line.Jmp to) h = one_again name_of (λ name. name) is_id names line.Jmp to h
-parts_again (line.Jz ra to) h = let p = and_parts (is_register ra) (is_id to) h in two_again register_of register is_register registers name_of (λ name. name) is_id names line.Jz ra to p.0 p.1
-parts_again (line.Jnz ra to) h = let p = and_parts (is_register ra) (is_id to) h in two_again register_of register is_register registers name_of (λ name. name) is_id names line.Jnz ra to p.0 p.1
-parts_again (line.Jlt ra rb to) h = let p = both (is_register ra) (is_register rb) (is_id to) h in three_again register_of register is_register registers name_of (λ name. name) is_id names line.Jlt ra rb to p.0 p.1 p.2
+parts_again (line.Put ra bytes) h = let p = both (is_register ra) (is_put bytes) (are_bytes bytes) h in two_again registers puts line.Put ra bytes p.0 (and_from _ _ p.1 p.2)
+parts_again (line.In width rd port) h = let p = both (is_port_width width) (is_register rd) (is_port port) h in three_again port_widths ports line.In width rd port p.0 p.1 p.2
+parts_again (line.Out width rs port) h = let p = both (is_port_width width) (is_register rs) (is_port port) h in three_again port_widths ports line.Out width rs port p.0 p.1 p.2
+parts_again (line.Jmp to) h = one_again names line.Jmp to h
+parts_again (line.Jz ra to) h = let p = and_parts (is_register ra) (is_id to) h in two_again registers names line.Jz ra to p.0 p.1
+parts_again (line.Jnz ra to) h = let p = and_parts (is_register ra) (is_id to) h in two_again registers names line.Jnz ra to p.0 p.1
+parts_again (line.Jlt ra rb to) h = let p = both (is_register ra) (is_register rb) (is_id to) h in three_again registers names line.Jlt ra rb to p.0 p.1 p.2
 parts_again line.Halt h = halt_again
   where
     halt_again : with_none line.Halt [] ≡ Ok line.Halt

@@ -62,62 +62,59 @@ unfolding with_none
 none_spelled l m word [] is e = subst (Spelled (word ∷ [])) (made_is l m Reason e) is
 none_spelled l m word (a ∷ fields) is e = absurd (cc)
 
-module _ {A : Type 0} (read : List ℕ → Result A Reason) (text : A → List ℕ) (good : A → Bool) (kind : IsKind read text good) (make : A → Line) where
-  pub one_spelled : (word : List ℕ) (fields : List (List ℕ)) (l : Line) → ((x : A) → good x ≡ true → Spelled (word ∷ text x ∷ []) (make x)) → with_one read make fields ≡ Ok l → Spelled (word ∷ fields) l
-  unfolding with_one
-  one_spelled word fields l is e =
-      let a = bind_ok (one fields) (λ f. read f >>= λ x. Ok (make x)) l e in
-      let b = bind_ok (read a.0) (λ x. Ok (make x)) l a.2 in
-      let field = kind.spelled a.0 b.0 b.1 in
-      let all : fields ≡ text b.0 ∷ [] = one_ok fields a.0 a.1 ∙ ap (λ f. f ∷ []) field.0 in
-      subst (Spelled (word ∷ fields)) (made_is (make b.0) l Reason b.2) (subst (λ fs. Spelled (word ∷ fs) (make b.0)) (sym all) (is b.0 field.1))
+pub one_spelled : {A : Type 0} {read : List ℕ → Result A Reason} {text : A → List ℕ} {good : A → Bool} (kind : IsKind read text good) (make : A → Line) (word : List ℕ) (fields : List (List ℕ)) (l : Line) → ((x : A) → good x ≡ true → Spelled (word ∷ text x ∷ []) (make x)) → with_one read make fields ≡ Ok l → Spelled (word ∷ fields) l
+unfolding with_one
+one_spelled {read = read} {text = text} kind make word fields l is e =
+    let a = bind_ok (one fields) (λ f. read f >>= λ x. Ok (make x)) l e in
+    let b = bind_ok (read a.0) (λ x. Ok (make x)) l a.2 in
+    let field = kind.spelled a.0 b.0 b.1 in
+    let all : fields ≡ text b.0 ∷ [] = one_ok fields a.0 a.1 ∙ ap (λ f. f ∷ []) field.0 in
+    subst (Spelled (word ∷ fields)) (made_is (make b.0) l Reason b.2) (subst (λ fs. Spelled (word ∷ fs) (make b.0)) (sym all) (is b.0 field.1))
 
-  pub one_again : (x : A) → good x ≡ true → with_one read make (text x ∷ []) ≡ Ok (make x)
-  unfolding with_one one
-  one_again x h = bind_goes (read (text x)) (λ x. Ok (make x)) x (kind.again x h)
+pub one_again : {A : Type 0} {read : List ℕ → Result A Reason} {text : A → List ℕ} {good : A → Bool} (kind : IsKind read text good) (make : A → Line) (x : A) → good x ≡ true → with_one read make (text x ∷ []) ≡ Ok (make x)
+unfolding with_one one
+one_again {read = read} {text = text} kind make x h = bind_goes (read (text x)) (λ x. Ok (make x)) x (kind.again x h)
 
 -- ---- of two
 
-module _ {A B : Type 0} (read : List ℕ → Result A Reason) (text : A → List ℕ) (good : A → Bool) (kind : IsKind read text good) (read' : List ℕ → Result B Reason) (text' : B → List ℕ) (good' : B → Bool) (kind' : IsKind read' text' good') (make : A → B → Line) where
-  pub two_spelled : (word : List ℕ) (fields : List (List ℕ)) (l : Line) → ((x : A) (y : B) → good x ≡ true → good' y ≡ true → Spelled (word ∷ text x ∷ text' y ∷ []) (make x y)) → with_two read read' make fields ≡ Ok l → Spelled (word ∷ fields) l
-  unfolding with_two
-  two_spelled word fields l is e =
-      let a = bind_ok (two fields) (λ f. read f.0 >>= λ x. read' f.1 >>= λ y. Ok (make x y)) l e in
-      let b = bind_ok (read a.0.0) (λ x. read' a.0.1 >>= λ y. Ok (make x y)) l a.2 in
-      let c = bind_ok (read' a.0.1) (λ y. Ok (make b.0 y)) l b.2 in
-      let first = kind.spelled a.0.0 b.0 b.1 in
-      let second = kind'.spelled a.0.1 c.0 c.1 in
-      let all : fields ≡ text b.0 ∷ text' c.0 ∷ [] = two_ok fields a.0 a.1 ∙ (ap (λ f. f ∷ a.0.1 ∷ []) first.0 ∙ ap (λ f. text b.0 ∷ f ∷ []) second.0) in
-      subst (Spelled (word ∷ fields)) (made_is (make b.0 c.0) l Reason c.2) (subst (λ fs. Spelled (word ∷ fs) (make b.0 c.0)) (sym all) (is b.0 c.0 first.1 second.1))
+pub two_spelled : {A B : Type 0} {read : List ℕ → Result A Reason} {text : A → List ℕ} {good : A → Bool} {read' : List ℕ → Result B Reason} {text' : B → List ℕ} {good' : B → Bool} (kind : IsKind read text good) (kind' : IsKind read' text' good') (make : A → B → Line) (word : List ℕ) (fields : List (List ℕ)) (l : Line) → ((x : A) (y : B) → good x ≡ true → good' y ≡ true → Spelled (word ∷ text x ∷ text' y ∷ []) (make x y)) → with_two read read' make fields ≡ Ok l → Spelled (word ∷ fields) l
+unfolding with_two
+two_spelled {read = read} {text = text} {read' = read'} {text' = text'} kind kind' make word fields l is e =
+    let a = bind_ok (two fields) (λ f. read f.0 >>= λ x. read' f.1 >>= λ y. Ok (make x y)) l e in
+    let b = bind_ok (read a.0.0) (λ x. read' a.0.1 >>= λ y. Ok (make x y)) l a.2 in
+    let c = bind_ok (read' a.0.1) (λ y. Ok (make b.0 y)) l b.2 in
+    let first = kind.spelled a.0.0 b.0 b.1 in
+    let second = kind'.spelled a.0.1 c.0 c.1 in
+    let all : fields ≡ text b.0 ∷ text' c.0 ∷ [] = two_ok fields a.0 a.1 ∙ (ap (λ f. f ∷ a.0.1 ∷ []) first.0 ∙ ap (λ f. text b.0 ∷ f ∷ []) second.0) in
+    subst (Spelled (word ∷ fields)) (made_is (make b.0 c.0) l Reason c.2) (subst (λ fs. Spelled (word ∷ fs) (make b.0 c.0)) (sym all) (is b.0 c.0 first.1 second.1))
 
-  pub two_again : (x : A) (y : B) → good x ≡ true → good' y ≡ true → with_two read read' make (text x ∷ text' y ∷ []) ≡ Ok (make x y)
-  unfolding with_two two
-  two_again x y h h' =
-      bind_goes (read (text x)) (λ x. read' (text' y) >>= λ y. Ok (make x y)) x (kind.again x h)
-      ∙ bind_goes (read' (text' y)) (λ y. Ok (make x y)) y (kind'.again y h')
+pub two_again : {A B : Type 0} {read : List ℕ → Result A Reason} {text : A → List ℕ} {good : A → Bool} {read' : List ℕ → Result B Reason} {text' : B → List ℕ} {good' : B → Bool} (kind : IsKind read text good) (kind' : IsKind read' text' good') (make : A → B → Line) (x : A) (y : B) → good x ≡ true → good' y ≡ true → with_two read read' make (text x ∷ text' y ∷ []) ≡ Ok (make x y)
+unfolding with_two two
+two_again {read = read} {text = text} {read' = read'} {text' = text'} kind kind' make x y h h' =
+    bind_goes (read (text x)) (λ x. read' (text' y) >>= λ y. Ok (make x y)) x (kind.again x h)
+    ∙ bind_goes (read' (text' y)) (λ y. Ok (make x y)) y (kind'.again y h')
 
 -- ---- of three, of which the second is a register
 
-module _ {A C : Type 0} (read : List ℕ → Result A Reason) (text : A → List ℕ) (good : A → Bool) (kind : IsKind read text good) (read' : List ℕ → Result C Reason) (text' : C → List ℕ) (good' : C → Bool) (kind' : IsKind read' text' good') (make : A → ℕ → C → Line) where
-  pub three_spelled : (word : List ℕ) (fields : List (List ℕ)) (l : Line) → ((x : A) (r : ℕ) (y : C) → good x ≡ true → is_register r ≡ true → good' y ≡ true → Spelled (word ∷ text x ∷ register r ∷ text' y ∷ []) (make x r y)) → with_three read register_of read' make fields ≡ Ok l → Spelled (word ∷ fields) l
-  unfolding with_three
-  three_spelled word fields l is e =
-      let a = bind_ok (three fields) (λ f. read f.0 >>= λ x. register_of f.1 >>= λ r. read' f.2 >>= λ y. Ok (make x r y)) l e in
-      let b = bind_ok (read a.0.0) (λ x. register_of a.0.1 >>= λ r. read' a.0.2 >>= λ y. Ok (make x r y)) l a.2 in
-      let c = bind_ok (register_of a.0.1) (λ r. read' a.0.2 >>= λ y. Ok (make b.0 r y)) l b.2 in
-      let d = bind_ok (read' a.0.2) (λ y. Ok (make b.0 c.0 y)) l c.2 in
-      let first = kind.spelled a.0.0 b.0 b.1 in
-      let second = registers.spelled a.0.1 c.0 c.1 in
-      let third = kind'.spelled a.0.2 d.0 d.1 in
-      let all : fields ≡ text b.0 ∷ register c.0 ∷ text' d.0 ∷ [] = three_ok fields a.0 a.1 ∙ (ap (λ f. f ∷ a.0.1 ∷ a.0.2 ∷ []) first.0 ∙ (ap (λ f. text b.0 ∷ f ∷ a.0.2 ∷ []) second.0 ∙ ap (λ f. text b.0 ∷ register c.0 ∷ f ∷ []) third.0)) in
-      subst (Spelled (word ∷ fields)) (made_is (make b.0 c.0 d.0) l Reason d.2) (subst (λ fs. Spelled (word ∷ fs) (make b.0 c.0 d.0)) (sym all) (is b.0 c.0 d.0 first.1 second.1 third.1))
+pub three_spelled : {A C : Type 0} {read : List ℕ → Result A Reason} {text : A → List ℕ} {good : A → Bool} {read' : List ℕ → Result C Reason} {text' : C → List ℕ} {good' : C → Bool} (kind : IsKind read text good) (kind' : IsKind read' text' good') (make : A → ℕ → C → Line) (word : List ℕ) (fields : List (List ℕ)) (l : Line) → ((x : A) (r : ℕ) (y : C) → good x ≡ true → is_register r ≡ true → good' y ≡ true → Spelled (word ∷ text x ∷ register r ∷ text' y ∷ []) (make x r y)) → with_three read register_of read' make fields ≡ Ok l → Spelled (word ∷ fields) l
+unfolding with_three
+three_spelled {read = read} {text = text} {read' = read'} {text' = text'} kind kind' make word fields l is e =
+    let a = bind_ok (three fields) (λ f. read f.0 >>= λ x. register_of f.1 >>= λ r. read' f.2 >>= λ y. Ok (make x r y)) l e in
+    let b = bind_ok (read a.0.0) (λ x. register_of a.0.1 >>= λ r. read' a.0.2 >>= λ y. Ok (make x r y)) l a.2 in
+    let c = bind_ok (register_of a.0.1) (λ r. read' a.0.2 >>= λ y. Ok (make b.0 r y)) l b.2 in
+    let d = bind_ok (read' a.0.2) (λ y. Ok (make b.0 c.0 y)) l c.2 in
+    let first = kind.spelled a.0.0 b.0 b.1 in
+    let second = registers.spelled a.0.1 c.0 c.1 in
+    let third = kind'.spelled a.0.2 d.0 d.1 in
+    let all : fields ≡ text b.0 ∷ register c.0 ∷ text' d.0 ∷ [] = three_ok fields a.0 a.1 ∙ (ap (λ f. f ∷ a.0.1 ∷ a.0.2 ∷ []) first.0 ∙ (ap (λ f. text b.0 ∷ f ∷ a.0.2 ∷ []) second.0 ∙ ap (λ f. text b.0 ∷ register c.0 ∷ f ∷ []) third.0)) in
+    subst (Spelled (word ∷ fields)) (made_is (make b.0 c.0 d.0) l Reason d.2) (subst (λ fs. Spelled (word ∷ fs) (make b.0 c.0 d.0)) (sym all) (is b.0 c.0 d.0 first.1 second.1 third.1))
 
-  pub three_again : (x : A) (r : ℕ) (y : C) → good x ≡ true → is_register r ≡ true → good' y ≡ true → with_three read register_of read' make (text x ∷ register r ∷ text' y ∷ []) ≡ Ok (make x r y)
-  unfolding with_three three
-  three_again x r y h g h' =
-      bind_goes (read (text x)) (λ x. register_of (register r) >>= λ r. read' (text' y) >>= λ y. Ok (make x r y)) x (kind.again x h)
-      ∙ (bind_goes (register_of (register r)) (λ r. read' (text' y) >>= λ y. Ok (make x r y)) r (registers.again r g)
-      ∙ bind_goes (read' (text' y)) (λ y. Ok (make x r y)) y (kind'.again y h'))
+pub three_again : {A C : Type 0} {read : List ℕ → Result A Reason} {text : A → List ℕ} {good : A → Bool} {read' : List ℕ → Result C Reason} {text' : C → List ℕ} {good' : C → Bool} (kind : IsKind read text good) (kind' : IsKind read' text' good') (make : A → ℕ → C → Line) (x : A) (r : ℕ) (y : C) → good x ≡ true → is_register r ≡ true → good' y ≡ true → with_three read register_of read' make (text x ∷ register r ∷ text' y ∷ []) ≡ Ok (make x r y)
+unfolding with_three three
+three_again {read = read} {text = text} {read' = read'} {text' = text'} kind kind' make x r y h g h' =
+    bind_goes (read (text x)) (λ x. register_of (register r) >>= λ r. read' (text' y) >>= λ y. Ok (make x r y)) x (kind.again x h)
+    ∙ (bind_goes (register_of (register r)) (λ r. read' (text' y) >>= λ y. Ok (make x r y)) r (registers.again r g)
+    ∙ bind_goes (read' (text' y)) (λ y. Ok (make x r y)) y (kind'.again y h'))
 
 -- ---- of four
 
