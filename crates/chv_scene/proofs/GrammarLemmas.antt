@@ -10,7 +10,6 @@ use Rattle.chv_defs_scene.specs.declared.scene.Asked.{Asked}
 use Rattle.chv_defs_scene.specs.declared.scene.Asked.TheVariants as asked
 use Rattle.chv_defs_base.specs.declared.rule.Reason.{Reason}
 use Rattle.chv_defs_base.specs.declared.rule.Reason.TheVariants.{UnknownWord, FieldCount, BadName}
-use Rattle.chv_num.proofs.Bases.{hex_base}
 use Rattle.chv_num.proofs.HexSpelling.{chosen}
 use Rattle.chv_num.proofs.PairBytes.{pairs_are_bytes, in_some}
 use Rattle.chv_scene.proofs.SpellingLemmas.{by_test, no_fault, unchanged, raw_is, scenario_spelled}

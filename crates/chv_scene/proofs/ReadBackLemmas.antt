@@ -1,8 +1,7 @@
 -- The text of a scenario is read as its sessions.
-use Rattle.std.proofs.Common.{◌≡◌, ℕ, ◌+◌, ◌/◌, ◌%◌, ◌<◌, ◌≤◌, ◌==◌, ◌&&◌, not, nat_lt, nat_le, Bool, true, false, cond, zero, suc, List, [], ◌∷◌, ◌++◌, length, flat_map, get_or, codes, Option, None, Some, Ok, Err, refl, sym, ◌∙◌, ap, append_assoc, arith}
-use Rattle.std.specs.Fmt.{digit_glyph}
+use Rattle.std.proofs.Common.{◌≡◌, ℕ, ◌+◌, ◌<◌, ◌≤◌, ◌==◌, ◌&&◌, not, nat_lt, nat_le, Bool, true, false, cond, List, [], ◌∷◌, ◌++◌, length, flat_map, codes, Option, None, Some, Ok, Err, refl, sym, ◌∙◌, ap, append_assoc, arith}
 use Rattle.std.specs.List.{list_all}
-use Rattle.std.proofs.lemmas.Bool.{agree_below_at, and_parts, and_from, or_from, cond-true, cond-false, ne_eqb, ltb-true, lt-ltb}
+use Rattle.std.proofs.lemmas.Bool.{and_parts, and_from, or_from, cond-true, cond-false, ne_eqb, ltb-true, lt-ltb}
 use Rattle.chv_defs_base.specs.Numbers.{is_hex_digit, pairs, bytes_of}
 use Rattle.chv_defs_scene.specs.ScenarioText.{Line, lines_of, onto_line, at_space, has_space, is_route_byte, is_route_name, Asks, named, put_name, raw_bytes, section_line, Sessions, with_request, with_session, of_sessions, section_part, top_part, read_lines, read_scenario, is_request, IsScenario}
 use Rattle.chv_defs_scene.specs.SceneText.{request_line, session_section}

@@ -6,7 +6,7 @@ use Rattle.std.proofs.lemmas.Bool.{and_parts, and_from, cond-true}
 use Rattle.std.proofs.lemmas.List.Splits.{join_with_byte-slice_split}
 use Rattle.std.proofs.lemmas.Slice.Eq.{bytes_eq-Decides}
 use Rattle.chv_defs_base.specs.Id.{is_id}
-use Rattle.chv_defs_base.specs.Numbers.{dec_text, hex_text, pairs, is_width}
+use Rattle.chv_defs_base.specs.Numbers.{dec_text, hex_text, is_width}
 use Rattle.chv_defs_base.specs.declared.rule.Reason.{Reason}
 use Rattle.chv_defs_base.specs.declared.rule.Reason.TheVariants.{UnknownWord}
 use Rattle.chv_defs_scene.specs.declared.scene.Line.{Line}

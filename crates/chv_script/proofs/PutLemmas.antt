@@ -1,13 +1,9 @@
 -- The bytes of a `put` have one spelling, which is read back.
-use Rattle.std.proofs.Common.{◌≡◌, ℕ, ◌+◌, ◌*◌, ◌/◌, ◌%◌, ◌<◌, ◌==◌, ◌&&◌, nat_le, nat_lt, Bool, true, zero, suc, List, [], ◌∷◌, length, get_or, Option, None, Some, option_map, refl, sym, ◌∙◌, subst, arith}
-use Rattle.std.specs.Char.{digit_value}
-use Rattle.std.specs.List.{list_all}
-use Rattle.std.proofs.lemmas.Bool.{and_parts, and_from, cond-false, ne_eqb, leb-true, ltb-true, lt-ltb}
-use Rattle.chv_defs_base.specs.Numbers.{is_hex_digit, pairs, bytes_in, bytes_of}
+use Rattle.std.proofs.Common.{◌≡◌, ℕ, ◌<◌, ◌&&◌, nat_le, Bool, true, List, length, refl, arith}
+use Rattle.std.proofs.lemmas.Bool.{and_parts, and_from, leb-true}
+use Rattle.chv_defs_base.specs.Numbers.{is_hex_digit, pairs, bytes_of}
 use Rattle.chv_defs_base.specs.declared.rule.Reason.TheVariants.{BadHex}
 use Rattle.chv_defs_scene.specs.ScriptReading.{is_put, put_bytes_of}
-use Rattle.chv_num.proofs.Bases.{hex_base}
-use Rattle.chv_num.proofs.HexSpelling.{chosen}
 use Rattle.chv_num.proofs.PairBytes.{are_bytes, pairs_are_bytes, in_some, pairs_digits, byte_at}
 use Rattle.chv_num.proofs.PairSpelling.{pairs_one_spelling, pairs_read_back}
 use Rattle.chv_script.proofs.KindLemmas.{IsKind, kept_ok, kept_again, all_plain}
