@@ -1,5 +1,5 @@
 -- The laws of scripts.
-use Rattle.std.proofs.Common.{◌≡◌, ℕ, ◌+◌, List, [], ◌∷◌, ◌++◌, length, take, drop, map, flat_map, codes, Result, Ok, Err, refl, sym, ◌∙◌, ap, subst, append_assoc, length-append, arith}
+use Rattle.std.proofs.Common.{◌≡◌, ℕ, ◌+◌, ◌≤◌, List, [], ◌∷◌, ◌++◌, length, take, drop, map, flat_map, codes, Result, Ok, Err, IfOk, IfErr, refl, sym, ◌∙◌, ap, subst, append_assoc, length-append, arith}
 use Rattle.std.proofs.lemmas.List.{take-append-drop, take_at, append-nil}
 use Rattle.chv_defs_base.specs.declared.rule.Reason.{Reason}
 use Rattle.chv_defs_scene.specs.declared.scene.Line.{Line}
@@ -7,7 +7,9 @@ use Rattle.chv_defs_scene.specs.declared.scene.Script.{Script}
 use Rattle.chv_defs_scene.specs.ScriptText.{line_text}
 use Rattle.chv_defs_scene.specs.ScriptReading.{◌>>=◌, labels_of, unless, line_of, line_between, Fault, at_line, read_behind, read_script}
 use Rattle.chv_script.specs.Labels.{SameLabels}
-use Rattle.chv_script.specs.Laws.{text_of, IsReadBack, OneSpelling, NamesFirstFault, NoScriptBegins}
+use Rattle.chv_script.specs.Reads.{answer_of}
+use Rattle.chv_script.specs.declared.reading.ScriptFault.{ScriptFault}
+use Rattle.chv_script.specs.Laws.{text_of, IsReadBack, OneSpelling, IsFirstFault, NamesFirstFault, NoScriptBegins}
 use Rattle.chv_script.proofs.LabelLemmas.{fault_same}
 use Rattle.chv_script.proofs.StepLemmas.{next_same}
 use Rattle.chv_script.proofs.GrammarLemmas.{first_read, read_line, read_is_script, script_is_read}
@@ -143,3 +145,23 @@ no_script lines fault e others script is same begins =
     let labels : SameLabels (labels_of (front ++ first.text ∷ rest)) (labels_of (front ++ first.text ∷ first.behind)) = subst (λ ls. SameLabels (labels_of ls) (labels_of (front ++ first.text ∷ first.behind))) whole (subst (λ ls. SameLabels (labels_of others) (labels_of ls)) first.whole same) in
     let both : Ok found.0 ≡ Err fault.reason = sym found.1 ∙ (between_same front first.text rest first.behind labels ∙ first.fails) in
     cc
+
+-- ---- the line of an answer
+
+-- a refusal names one of the lines
+line_there : (lines : List (List ℕ)) (fault : Fault) → IsFirstFault lines fault → (1 ≤ fault.line) × (fault.line ≤ length lines)
+line_there lines fault is =
+    let counted : length lines ≡ length is.front + length (is.text ∷ is.behind) = ap length is.whole ∙ length-append is.front (is.text ∷ is.behind) in
+    (omega (arith, is.line), omega (arith, is.line, counted))
+
+line_of_answer : (lines : List (List ℕ)) (read : Result (List Line) Fault) → read_script lines ≡ read → IfErr (answer_of read) (λ fault. (1 ≤ fault.line) × (fault.line ≤ length lines))
+line_of_answer lines (Ok script) e = tt
+line_of_answer lines (Err fault) e = line_there lines fault (names_first lines fault e)
+
+answer_line : (lines : List (List ℕ)) (answer : Result Script ScriptFault) → answer ≡ answer_of (read_script lines) → IfErr answer (λ fault. (1 ≤ fault.line) × (fault.line ≤ length lines))
+answer_line lines answer e = subst (λ a. IfErr a (λ fault. (1 ≤ fault.line) × (fault.line ≤ length lines))) (sym e) (line_of_answer lines (read_script lines) refl)
+
+-- the same of a call that may want memory
+pub call_line : {E : Type 0} (lines : List (List ℕ)) (call : Result (Result Script ScriptFault) E) → IfOk call (λ answer. answer ≡ answer_of (read_script lines)) → IfOk call (λ answer. IfErr answer (λ fault. (1 ≤ fault.line) × (fault.line ≤ length lines)))
+call_line lines (Ok answer) e = answer_line lines answer e
+call_line lines (Err x) e = tt

@@ -1,5 +1,5 @@
 // Scripts, read from their lines.
-ghost use Rattle.std.specs.Prelude.{◌≡◌, ◌<◌, ◌^◌, length, IfOk};
+ghost use Rattle.std.specs.Prelude.{◌≡◌, ◌<◌, ◌≤◌, ◌^◌, length, IfOk, IfErr};
 ghost use Rattle.chv_defs_scene.specs.ScriptReading.{labels_of, read_script};
 ghost use Rattle.chv_script.specs.Labels.{SameLabels};
 ghost use Rattle.chv_script.specs.Reads.{answer_of};
@@ -22,7 +22,8 @@ pub struct ScriptFault {
 /// why. Each byte is looked at a bounded number of times, and each label is looked up once.
 pub fn read(alloc: Global, lines: &Row<Bytes>) -> Result<Result<Script, ScriptFault>, AllocError>
     requires { length lines.now < 2 ^ 32 }
-    ensures { IfOk result (λ answer. answer ≡ answer_of (read_script lines.now)) }
+    ensures answer { IfOk result (λ answer. answer ≡ answer_of (read_script lines.now)) }
+    ensures line { IfOk result (λ answer. IfErr answer (λ fault. (1 ≤ fault.line) × (fault.line ≤ length lines.now))) }
 {
     let all = all_labels(alloc, lines.as_slice())?;
     read_lines(alloc, &all, lines.as_slice())
