@@ -11,6 +11,8 @@ use Rattle.chv_defs_memory.proofs.GoingOn.{frozen-entry}
 use Rattle.chv_defs_control.specs.declared.machine.Machine.{Machine}
 use Rattle.chv_defs_control.specs.OwnerCalls.{zones_of}
 use Rattle.chv_ctl_mem.specs.ZoneCalls.{AreAsBefore, AreAtRest, IsAtRestSo}
+use Rattle.chv_guest.specs.LentBanks.{fresh_zones, known_at, Lent}
+use Rattle.chv_guest.proofs.SameBanks.{fresh-known}
 use Rattle.chv_tests_control.proofs.NoOthers.{call_made}
 
 -- ---- places are used
@@ -58,6 +60,17 @@ two-at-rest m known two low high z b zone bank =
     by zero below = low
     by (suc zero) below = high
     by (suc (suc z)) below = absurd (omega (arith, below))
+
+-- the first untouched, the second at rest behind what was done there
+pub second-done : (m : Machine) (zones : Lent) (before after : ℕ → ℕ → Known) → length (zones_of m) ≡ 2 → zones ≡ fresh_zones → before ≡ known_at zones.books
+    → OtherZonesStay before after 1 → IsAtRestSo false (after 1 0) → AreAtRest false m after
+second-done m zones before after two fresh is others done =
+    let lowest : after 0 0 ≡ record { history = []; entries = 0; pages = 0 } =
+    others 0 0 (omega arith, omega arith) refl
+    ∙ ap (λ (known : ℕ → ℕ → Known). known 0 0) is
+    ∙ ap (λ (z : Lent). known_at z.books 0 0) fresh
+    ∙ fresh-known 0 0 (omega arith, omega arith) in
+    two-at-rest m after two (subst (IsAtRestSo false) (sym lowest) (record { rest = refl; frozen_so = refl })) done
 
 -- and still so where all is as before
 pub rest-stays : (m : Machine) (before after : ℕ → ℕ → Known) → length (zones_of m) ≡ 2 → AreAtRest false m before → AreAsBefore before after → AreAtRest false m after

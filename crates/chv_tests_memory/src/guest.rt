@@ -29,9 +29,11 @@ fn has_room(zones: &mut LentBanks, zone: u8, pages: u32) -> Result<bool, AllocEr
 // Shapes the bank of a zone.
 fn shape(zones: &mut LentBanks, zone: u8) -> bool
     requires zone { zone < most_zones }
+    requires home { zones.old.lent ≡ [] }
     requires history { (known_at zones.old.books zone 0).history ≡ [] }
     requires entries { (known_at zones.old.books zone 0).entries ≡ 2 }
-    ensures { known_at zones.new.books zone 0 ≡ record (known_at zones.old.books zone 0) {
+    ensures home { zones.new.lent ≡ [] }
+    ensures shaped { known_at zones.new.books zone 0 ≡ record (known_at zones.old.books zone 0) {
       history = record { caller = 0; call = call.Shape 256; reply = reply.Done } ∷ [];
       entries = 1;
     } }
