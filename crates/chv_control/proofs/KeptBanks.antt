@@ -30,7 +30,7 @@ use Rattle.chv_addr.specs.AddressMap.{is_within_limits}
 use Rattle.chv_addr.proofs.Limits.{checked-within}
 use Rattle.chv_ctl_mem.specs.ZoneCalls.{AreAsBefore, AreAtRest, IsAtRestSo}
 use Rattle.chv_control.specs.Rest.{AreKept, AreQuiet, AreUntouched, IsQuiet}
-use Rattle.chv_control.proofs.MadeLaws.{made-none, owned-with_calls}
+use Rattle.chv_defs_memory.proofs.MadeLaws.{made-none, owned-with_calls}
 use Rattle.chv_control.proofs.QuietSteps.{quiet-after}
 
 -- ---- the link
@@ -134,3 +134,9 @@ called-at-stop m history lent known kept zone bank is =
     by None k calls rest none = (([], refl, sym (append-nil k.history)), refl)
     by (Some config) k calls rest none =
         (subst (λ (cs : List BankCall). AreMade [] bank k.history cs k.history) (sym none) ([], refl, sym (append-nil k.history)), rest)
+
+-- the banks behind a Stop
+pub AreKept-stop : (shelf : List OnShelf) (m : Machine) (caller : ℕ) (history : List ControlEntry) (lent : List ℕ) (known : ℕ → ℕ → Known) → AreKept m history lent known → IsLegal shelf history m
+    → AreKept (record m { stopped = true }) (history ++ record { caller = caller; call = call.Stop; reply = reply.Done } ∷ []) lent known
+AreKept-stop shelf m caller history lent known kept legal =
+    AreKept-after shelf m history (record { caller = caller; call = call.Stop; reply = reply.Done }) lent lent known known kept legal refl (called-at-stop m history lent known kept) kept.home

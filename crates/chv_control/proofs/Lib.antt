@@ -1,7 +1,6 @@
-pub mod Fits
+pub mod Answered
 pub mod Kept
 pub mod KeptBanks
-pub mod MadeLaws
 pub mod QuietBanks
 pub mod QuietSteps
 pub mod Refusals

@@ -16,10 +16,10 @@ ghost use Rattle.chv_ctl_mem.specs.ZoneCalls.{AreAsBefore};
 use crate::books::make_calls;
 use crate::entries::{make_room, put_entry};
 use crate::inner::Inner;
-use crate::made::{leave, make};
+use crate::made::make;
 use crate::shelf::shelf_of;
 use crate::start::Start;
-use chv_ctl_api::show;
+use chv_ctl_api::{api_commit, show};
 use chv_defs_api::{ControlCall, ControlEntry, ControlReply, Info, OnShelf};
 use chv_defs_base::{Name, Row, beside};
 use chv_defs_control::{Life, Machine};
@@ -196,7 +196,7 @@ impl<D: Disk, Z: Banked> Control<D, Z> {
             drop(made);
             return Ok(Err(Inner::Full(full)));
         }
-        let made = leave(&mut self.machine, made);
+        api_commit(&mut self.machine, made.change);
         self.bytes += made.added;
         put_entry(&mut self.history, made.entry);
         Ok(Ok(made.reply))
