@@ -29,6 +29,10 @@ or_parts false c e = (refl, e)
 at_most : (a b : ℕ) → nat_lt a b ≡ false → b ≤ a
 at_most a b e = grind (arith, nat_tests)
 
+pub not-stop : (c : ControlCall) → (c ≡ call.Stop → ⊥) → is_stop c ≡ false
+not-stop call.Stop other = absurd (other refl)
+not-stop c other = refl
+
 -- a call that is no Stop leaves whether one was entered
 stopped_after : (m : Machine) (caller : ℕ) (c : ControlCall) (r : ControlReply) → is_stop c ≡ false → (after m caller c r).stopped ≡ m.stopped
 stopped_after m caller call.Stop r other = cc

@@ -29,7 +29,7 @@ use Rattle.chv_defs_control.proofs.CallsFor.{calls_for-push}
 use Rattle.chv_addr.specs.AddressMap.{is_within_limits}
 use Rattle.chv_addr.proofs.Limits.{checked-within}
 use Rattle.chv_ctl_mem.specs.ZoneCalls.{AreAsBefore, AreAtRest, IsAtRestSo}
-use Rattle.chv_control.specs.Rest.{AreKept, AreQuiet, AreUntouched, IsQuiet}
+use Rattle.chv_control.specs.Rest.{AreKept, IsQuiet}
 use Rattle.chv_defs_memory.proofs.MadeLaws.{made-none, owned-with_calls}
 use Rattle.chv_control.proofs.QuietSteps.{quiet-after}
 
@@ -67,19 +67,6 @@ AreKept-same m history lent left old new kept same home = record {
   linked = λ zone bank is. ap (λ (known : Known). owned known.history) (same zone bank is) ∙ kept.linked zone bank is;
   home = home;
   quiet = λ zone bank is. subst (IsQuiet m zone bank) (sym (same zone bank is)) (kept.quiet zone bank is);
-}
-
--- banks to which nothing happened yet
-pub AreKept-fresh : (lent : List ℕ) (known : ℕ → ℕ → Known) → lent ≡ [] → AreUntouched known → AreKept empty_machine [] lent known
-AreKept-fresh lent known home untouched = record {
-  linked = λ zone bank is. ap (λ (k : Known). owned k.history) (untouched zone bank is);
-  home = home;
-  quiet = λ zone bank is. subst (IsQuiet empty_machine zone bank) (sym (untouched zone bank is)) (record {
-    rest = refl;
-    frozen = refl;
-    opened = λ block mine. refl;
-    unsealed = λ block. refl;
-  });
 }
 
 -- ---- what the calls in the banks ask for
