@@ -1,5 +1,5 @@
 -- What a call is answered, by whether a book is full for its entry.
-use Rattle.std.proofs.Common.{◌≡◌, ◌≤◌, ◌+◌, ℕ, false, List, [], Option, None, Some, Result, Ok, Err, refl, sym, ap, subst, ◌∙◌}
+use Rattle.std.proofs.Common.{◌≡◌, ℕ, List, [], Option, None, Some, Result, Ok, Err, refl, sym, ap, subst, ◌∙◌}
 use Rattle.std.specs.Prelude.{IfOk, MatchResult}
 use Rattle.std.specs.declared.alloc.AllocError.{AllocError}
 use Rattle.chv_defs_base.specs.declared.book.Full.{Full}
@@ -17,7 +17,6 @@ use Rattle.chv_defs_control.specs.ControlBook.{full_at}
 use Rattle.chv_defs_control.specs.FullBooks.{book_in, first_full, or_else}
 use Rattle.chv_defs_control.specs.OwnerCalls.{room_refusal_for, HaveTheCalls}
 use Rattle.chv_ctl_mem.specs.ZoneCalls as zones
-use Rattle.chv_control.specs.declared.inner.Inner.{Inner}
 use Rattle.chv_control.specs.declared.inner.Inner.TheVariants as inner
 use Rattle.chv_control.specs.Control.{entry_of, unless_full}
 use Rattle.chv_control.proofs.KeptBanks.{no-room-wanted, none-at-stop}

@@ -1,7 +1,6 @@
 -- A further entry, with the calls that it makes in the banks, keeps what the type of the control value keeps of them.
 use Rattle.std.proofs.Common.{◌≡◌, ◌≤◌, ◌<◌, ℕ, Bool, true, false, List, [], ◌∷◌, ◌++◌, length, Option, None, Some, refl, sym, ap, subst, ◌∙◌, arith}
-use Rattle.std.specs.Prelude.{◌&&◌, is_some, nat_le, slice_get}
-use Rattle.std.specs.List.{list_all}
+use Rattle.std.specs.Prelude.{◌&&◌, is_some, slice_get}
 use Rattle.std.proofs.Math.Path.{fun_ext}
 use Rattle.std.proofs.lemmas.List.{append-nil}
 use Rattle.std.proofs.lemmas.Bool.Decides.{nat_tests}
@@ -15,11 +14,9 @@ use Rattle.chv_defs_api.specs.declared.control.ControlReply.{ControlReply}
 use Rattle.chv_defs_api.specs.declared.control.ControlReply.TheVariants as reply
 use Rattle.chv_defs_api.specs.declared.control.ControlEntry.{ControlEntry}
 use Rattle.chv_defs_memory.specs.declared.bank.BankCall.{BankCall}
-use Rattle.chv_defs_memory.specs.BankState.{is_frozen}
 use Rattle.chv_defs_memory.specs.MadeCalls.{owned, wanted_refusal, AreMade, IsAtRest}
-use Rattle.chv_defs_memory.specs.Zones.{most_zones, IsBank, Known}
+use Rattle.chv_defs_memory.specs.Zones.{most_zones, Known}
 use Rattle.chv_defs_memory.proofs.ZoneLaws.{first-due-none, sees-none}
-use Rattle.chv_defs_control.specs.declared.machine.Life.{Life}
 use Rattle.chv_defs_control.specs.declared.machine.Machine.{Machine}
 use Rattle.chv_defs_control.specs.ApiStep.{after, is_paused, reply_to}
 use Rattle.chv_defs_control.specs.LegalControl.{IsLegal}
@@ -28,7 +25,7 @@ use Rattle.chv_defs_control.specs.OwnerCalls.{calls_where, owner_calls, room_ref
 use Rattle.chv_defs_control.proofs.CallsFor.{calls_for-push}
 use Rattle.chv_addr.specs.AddressMap.{is_within_limits}
 use Rattle.chv_addr.proofs.Limits.{checked-within}
-use Rattle.chv_ctl_mem.specs.ZoneCalls.{AreAsBefore, AreAtRest, IsAtRestSo}
+use Rattle.chv_ctl_mem.specs.ZoneCalls.{AreAsBefore, AreAtRest}
 use Rattle.chv_control.specs.Rest.{AreKept, IsQuiet}
 use Rattle.chv_defs_memory.proofs.MadeLaws.{made-none, owned-with_calls}
 use Rattle.chv_control.proofs.QuietSteps.{quiet-after}

@@ -1,5 +1,5 @@
 -- Each control call leaves the banks as they are between control turns.
-use Rattle.std.proofs.Common.{◌≡◌, ℕ, Bool, true, false, List, [], ◌∷◌, Option, None, Some, refl, sym, ap, subst, ◌∙◌}
+use Rattle.std.proofs.Common.{◌≡◌, ℕ, Bool, false, List, [], ◌∷◌, Option, None, Some, refl, sym, ap, subst}
 use Rattle.std.specs.Prelude.{not, is_some, slice_get, unwrap_or}
 use Rattle.chv_defs_api.specs.declared.config.Checked.{Checked}
 use Rattle.chv_defs_api.specs.declared.config.DiskConfig.{DiskConfig}
@@ -19,7 +19,7 @@ use Rattle.chv_defs_memory.specs.Zones.{Known}
 use Rattle.chv_defs_control.specs.declared.machine.Life.{Life}
 use Rattle.chv_defs_control.specs.declared.machine.Life.TheVariants as life
 use Rattle.chv_defs_control.specs.declared.machine.Machine.{Machine}
-use Rattle.chv_defs_control.specs.ApiStep.{after, is_booted, is_paused, is_running_or_paused, names_of, now_of, refusal_of, reply_to, rules_of, with_new_disk, without_disk}
+use Rattle.chv_defs_control.specs.ApiStep.{after, is_booted, is_paused, is_running_or_paused, names_of, refusal_of, reply_to, rules_of, with_new_disk, without_disk}
 use Rattle.chv_defs_control.specs.OwnerCalls.{calls_in, calls_where, owner_calls, zones_in, zones_of, IsLeft}
 use Rattle.chv_ctl_api.proofs.Verdicts.{first_broken-parts, none-broken, none-from_done}
 use Rattle.chv_control.specs.Rest.{IsQuiet}

@@ -1,5 +1,5 @@
 -- What contracts see of the control value, and what its type keeps.
-use Rattle.std.specs.Prelude.{◌≤◌, ◌+◌, ℕ, List, [], ◌∷◌, ◌++◌, Option, None, Some, Result, Ok, Err}
+use Rattle.std.specs.Prelude.{◌≤◌, ℕ, List, [], ◌∷◌, ◌++◌, Option, None, Some, Result, Ok, Err}
 use Rattle.chv_defs_control.specs.declared.machine.Machine.{Machine}
 use Rattle.chv_defs_base.specs.declared.book.Full.{Full}
 use Rattle.chv_defs_api.specs.declared.shelf.OnShelf.{OnShelf}

@@ -1,5 +1,5 @@
 -- What holds of the banks between control turns, and what the type of the control value keeps of them.
-use Rattle.std.specs.Prelude.{◌≡◌, ◌&&◌, ℕ, Bool, true, false, nat_lt, List, [], is_some, slice_get, Option, None, Some}
+use Rattle.std.specs.Prelude.{◌≡◌, ◌&&◌, ℕ, true, false, nat_lt, List, [], is_some, slice_get, Option, None, Some}
 use Rattle.chv_defs_base.specs.Sizes.{blocks_in}
 use Rattle.chv_defs_api.specs.declared.config.ZoneConfig.{ZoneConfig}
 use Rattle.chv_defs_api.specs.declared.control.ControlEntry.{ControlEntry}

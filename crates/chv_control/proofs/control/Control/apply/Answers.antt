@@ -1,7 +1,6 @@
-use Rattle.std.proofs.Common.{◌≡◌, ◌≤◌, ◌++◌, ◌∷◌, [], ◌+◌, ℕ, sym, ap, ◌∙◌, subst, refl, arith, true, false, Bool, List, None, Ok, Err, Result, if◌then◌else◌}
+use Rattle.std.proofs.Common.{◌≡◌, ◌≤◌, ◌++◌, ◌∷◌, [], ◌+◌, ℕ, sym, ap, ◌∙◌, subst, refl, arith, true, false, Bool, List, None, Ok, Err, if◌then◌else◌}
 use Rattle.std.proofs.lemmas.Grind.{common_steps}
 use Rattle.std.proofs.lemmas.List.Sums.{sum_by_push}
-use Rattle.chv_defs_base.specs.declared.book.Full.{Full}
 use Rattle.chv_defs_base.specs.Sizes.{most_payload}
 use Rattle.chv_defs_control.specs.declared.machine.Machine.{Machine}
 use Rattle.chv_defs_api.specs.declared.control.ControlEntry.{ControlEntry}
