@@ -16,7 +16,8 @@ use Rattle.chv_defs_memory.specs.Zones.{Known}
 use Rattle.chv_defs_memory.proofs.ZoneLaws.{goes-on-none, sees-none, thawed-by-thaw}
 use Rattle.chv_defs_control.specs.OwnerCalls.{IsLeft}
 use Rattle.chv_control.specs.Rest.{boot_blocks_of}
-use Rattle.chv_defs_memory.proofs.MadeLaws.{frozen-stays, made-none, open-decided, sealed-decided}
+use Rattle.chv_defs_memory.proofs.GoingOn.{frozen-entry, open-entry, sealed-entry}
+use Rattle.chv_defs_memory.proofs.MadeLaws.{made-none}
 
 -- A bank between control turns, by whether the machine is paused, whether it is booted, and the zone's configuration where it
 -- is in effect.
@@ -75,9 +76,9 @@ quiet-booted paused booted (Some config) bank old new calls running so quiet lef
     let same : new.history ≡ with_entry old.history 0 (call.Shape blocks) reply.Done = left-history bank old new calls (shape_calls config) (so config refl) left.0 in
     record {
       rest = left.1;
-      frozen = ap is_frozen same ∙ frozen-stays old.history (call.Shape blocks) reply.Done refl ∙ quiet.frozen ∙ ap (λ (b : Bool). b && true) running;
-      opened = λ block mine. ap (λ (h : List BankEntry). is_open bank h block) same ∙ open-decided bank block old.history (call.Shape blocks) reply.Done (nat_lt block blocks) refl;
-      unsealed = λ block. ap (λ (h : List BankEntry). is_sealed bank h block) same ∙ sealed-decided bank block old.history (call.Shape blocks) reply.Done false refl;
+      frozen = ap is_frozen same ∙ frozen-entry old.history (call.Shape blocks) reply.Done ∙ quiet.frozen ∙ ap (λ (b : Bool). b && true) running;
+      opened = λ block mine. ap (λ (h : List BankEntry). is_open bank h block) same ∙ open-entry bank block old.history (call.Shape blocks) reply.Done;
+      unsealed = λ block. ap (λ (h : List BankEntry). is_sealed bank h block) same ∙ sealed-entry bank block old.history (call.Shape blocks) reply.Done;
     }
 
 -- ---- a wipe
@@ -88,16 +89,16 @@ wipe_calls frozen = if frozen then call.Thaw ∷ call.Wipe ∷ [] else call.Wipe
 
 wiped-frozen : (paused : Bool) (bank : ℕ) (history : List BankEntry) → is_frozen history ≡ (paused && true) → is_frozen (with_calls bank history (wipe_calls paused)) ≡ false
 wiped-frozen true bank history frozen =
-    frozen-stays (with_entry history 0 call.Thaw reply.Done) call.Wipe reply.Done refl ∙ thawed-by-thaw history reply.Done
-wiped-frozen false bank history frozen = frozen-stays history call.Wipe reply.Done refl ∙ frozen
+    frozen-entry (with_entry history 0 call.Thaw reply.Done) call.Wipe reply.Done ∙ thawed-by-thaw history reply.Done
+wiped-frozen false bank history frozen = frozen-entry history call.Wipe reply.Done ∙ frozen
 
 wiped-open : (paused : Bool) (bank block : ℕ) (history : List BankEntry) → is_open bank (with_calls bank history (wipe_calls paused)) block ≡ false
-wiped-open true bank block history = open-decided bank block (with_entry history 0 call.Thaw reply.Done) call.Wipe reply.Done false refl
-wiped-open false bank block history = open-decided bank block history call.Wipe reply.Done false refl
+wiped-open true bank block history = open-entry bank block (with_entry history 0 call.Thaw reply.Done) call.Wipe reply.Done
+wiped-open false bank block history = open-entry bank block history call.Wipe reply.Done
 
 wiped-sealed : (paused : Bool) (bank block : ℕ) (history : List BankEntry) → is_sealed bank (with_calls bank history (wipe_calls paused)) block ≡ false
-wiped-sealed true bank block history = sealed-decided bank block (with_entry history 0 call.Thaw reply.Done) call.Wipe reply.Done false refl
-wiped-sealed false bank block history = sealed-decided bank block history call.Wipe reply.Done false refl
+wiped-sealed true bank block history = sealed-entry bank block (with_entry history 0 call.Thaw reply.Done) call.Wipe reply.Done
+wiped-sealed false bank block history = sealed-entry bank block history call.Wipe reply.Done
 
 -- behind a wipe no block is open, and the bank is not frozen
 pub quiet-wiped : (paused booted : Bool) (zone other : Option ZoneConfig) (bank : ℕ) (old new : Known) (calls : List BankCall)
