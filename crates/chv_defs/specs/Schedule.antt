@@ -165,9 +165,9 @@ fresh_banks = flat_map fresh_zone (range_with_len 0 most_zones)
 abbrev pub first_stage : Stage
 first_stage = record { machine = empty_machine; history = []; banks = fresh_banks; replies = [] }
 
--- what the owner knows of a bank: all of its history, and that it is at rest
-abbrev pub known_at : Stage → ℕ → ℕ → Known
-known_at s zone bank = at_rest (entries_in s.banks zone bank)
+-- what the owner knows of a bank among these: all of its history, and that it is at rest
+abbrev pub known_in : List BankTrace → ℕ → ℕ → Known
+known_in banks zone bank = at_rest (entries_in banks zone bank)
 
 -- with a reply
 abbrev pub with_reply : ℕ → List ℕ → Stage → Stage
@@ -192,7 +192,7 @@ with_entry shelf session c s = record s {
 
 -- the first book that is full for that entry, where one is
 abbrev pub full_for : List OnShelf → Stage → ℕ → ControlCall → Option Full
-full_for shelf s session c = first_full s.machine s.history (known_at s) (entry_of shelf s session c)
+full_for shelf s session c = first_full s.machine s.history (known_in s.banks) (entry_of shelf s session c)
 
 -- a refusal, or else a stage
 abbrev pub unless_full : Option Full → Stage → Result Stage Full

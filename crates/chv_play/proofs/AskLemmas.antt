@@ -12,10 +12,11 @@ use Rattle.chv_defs_control.specs.ControlStep.{MayCall}
 use Rattle.chv_defs_api.specs.Desks.{Answer, MayAsk, is_held, is_session_call}
 use Rattle.chv_defs_control.specs.LegalControl.{answers_by}
 use Rattle.chv_control.specs.declared.inner.Inner.TheVariants as inner
-use Rattle.chv_control.specs.Control.{Controlled, answer_to, entered, unless_full}
+use Rattle.chv_control.specs.Control.{answer_to, unless_full}
 use Rattle.chv_play.specs.declared.desk.PlayDesk.{PlayDesk}
 use Rattle.chv_play.specs.Desk.{IsAnswered, IsAskedOf, IsEntered, call_of, full_for}
 use Rattle.chv_play.proofs.DeskLemmas.{own_entry}
+use Rattle.chv_play.specs.Banks.{PlayedControl, entered_with_banks}
 
 -- a reply is the one that is due, in a book that has room
 has_room : (full : Option Full) (due reply : ControlReply) → Ok reply ≡ unless_full full due → (full ≡ None) × (reply ≡ due)
@@ -28,9 +29,9 @@ no_room None due book is = absurd (cc is)
 no_room (Some full) due book is = cc
 
 -- a call that was entered
-pub is_entered : {D : Type 0} (shelf : List OnShelf) (before : PlayDesk D) (call : ControlCall) (control : Controlled D) (reply : ControlReply)
+pub is_entered : {D : Type 0} (shelf : List OnShelf) (before : PlayDesk D) (call : ControlCall) (control : PlayedControl D) (reply : ControlReply)
     → Ok reply ≡ answer_to shelf before.control before.caller call
-    → control ≡ entered before.control (record { caller = before.caller; call = call; reply = reply })
+    → control ≡ entered_with_banks before.control (record { caller = before.caller; call = call; reply = reply })
     → IsEntered shelf before call (record before { control = control }) × (reply ≡ reply_to shelf before.control.machine call)
 is_entered {D} shelf before call control reply answer enters =
     let due = reply_to shelf before.control.machine call in
@@ -38,7 +39,7 @@ is_entered {D} shelf before call control reply answer enters =
     let entry : ControlReply → ControlEntry = λ r. record { caller = before.caller; call = call; reply = r } in (
       record {
         room = room.0;
-        enters = ap (λ (c : Controlled D). record before { control = c }) (enters ∙ ap (λ r. entered before.control (entry r)) room.1);
+        enters = ap (λ (c : PlayedControl D). record before { control = c }) (enters ∙ ap (λ r. entered_with_banks before.control (entry r)) room.1);
       },
       room.1,
     )

@@ -8,10 +8,11 @@ ghost use Rattle.chv_play.specs.Desk.{full_of, full_for, IsAnswered};
 
 use chv_control::{Control, Inner};
 use chv_defs::{ControlCall, ControlReply, Desk, Full, Stopped, copy_of};
+use chv_guest::LentBanks;
 use chv_io::Disk;
 use std::alloc::AllocError;
 
-/// A call for which the control book was full.
+/// A call for which a book was full.
 #[derive(Drop)]
 pub(crate) struct Refused {
     pub(crate) call: ControlCall,
@@ -19,9 +20,9 @@ pub(crate) struct Refused {
 }
 
 /// The desk of the sessions that are played: the control value, the number of the session whose turn it is, and the call
-/// of this turn for which the book was full, where there was one.
+/// of this turn for which a book was full, where there was one.
 pub(crate) struct PlayDesk<D: Disk> {
-    pub(crate) control: Control<D>,
+    pub(crate) control: Control<D, LentBanks>,
     pub(crate) caller: u32,
     pub(crate) refused: Option<Refused>,
 }
@@ -30,7 +31,7 @@ impl<D: Disk> PlayDesk<D> {
     ghost use Rattle.chv_control.specs.Shelf.{shelf_of, sectors_of};
 
     /// A desk at this control value, before the first turn.
-    pub(crate) fn new(control: Control<D>) -> PlayDesk<D>
+    pub(crate) fn new(control: Control<D, LentBanks>) -> PlayDesk<D>
         ensures { result.control ≡ control }
     {
         PlayDesk {
@@ -68,7 +69,10 @@ impl<D: Disk> PlayDesk<D> {
         requires session { is_session_call call.now ≡ true }
         ensures { IsAnswered (shelf_of (sectors_of D.sector_count) self.old.control.disks) self.old call.now self.new result }
     {
-        match self.control.apply(self.caller, call)? {
+        self.control.zones().recall();
+        let answer = self.control.apply((), self.caller, call);
+        self.control.zones().recall();
+        match answer? {
             Ok(reply) => Ok(Ok(reply)),
             Err(Inner::Full(full)) => self.refuse(call, full),
             Err(_) => unreachable!(),
@@ -97,7 +101,7 @@ impl<D: Disk> PlayDesk<D> {
     }
 
     /// The control value.
-    pub(crate) fn into_control(self) -> Control<D>
+    pub(crate) fn into_control(self) -> Control<D, LentBanks>
         ensures { result ≡ self.control }
     {
         let PlayDesk {
