@@ -1,5 +1,5 @@
 -- The banks of all zones in one list: those of zone 0, then those of zone 1, and so on.
-use Rattle.std.specs.Prelude.{◌≡◌, ◌<◌, ℕ, ◌+◌, ◌*◌, ◌/◌, ◌%◌, ◌==◌, ◌&&◌, Bool, true, List, ◌++◌, length, map, get_or, take, drop}
+use Rattle.std.specs.Prelude.{◌≡◌, ◌<◌, ℕ, ◌+◌, ◌*◌, ◌/◌, ◌%◌, ◌==◌, ◌&&◌, Bool, true, List, ◌++◌, [], length, map, get_or, take, drop}
 use Rattle.std.specs.List.{list_all, range_with_len}
 use Rattle.chv_defs_memory.specs.declared.bank.BankEntry.{BankEntry}
 use Rattle.chv_defs_memory.specs.BankState.{banks, is_owner_call}
@@ -21,6 +21,15 @@ fresh_at place = fresh (place / banks) (place % banks)
 -- all banks before anything happened to them
 abbrev pub fresh_banks : List BankBook
 fresh_banks = map fresh_at (range_with_len 0 bank_count)
+
+-- The banks of all zones, and the callers of the contexts that are lent. (The value of the type `LentBanks`; the player cites it.)
+pub record Lent : Type 0 where
+  pub books : List BankBook
+  pub lent : List ℕ
+
+-- before anything happened to them, and while nobody is lent
+abbrev pub fresh_zones : Lent
+fresh_zones = record { books = fresh_banks; lent = [] }
 
 -- the bank of a zone
 abbrev pub bank_at : List BankBook → ℕ → ℕ → BankBook
