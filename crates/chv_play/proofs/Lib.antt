@@ -9,6 +9,7 @@ pub mod NextLemmas
 pub mod OrderLemmas
 pub mod DeskLemmas
 pub mod AskLemmas
+pub mod BankLemmas
 pub mod LeadLemmas
 pub mod RoundLoopLemmas
 pub mod PlayedLemmas
