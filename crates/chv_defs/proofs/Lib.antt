@@ -1,0 +1,2 @@
+pub mod BankOrder
+pub mod ScheduleBanks
