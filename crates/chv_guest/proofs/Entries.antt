@@ -24,7 +24,7 @@ agrees zone bank p b zone_is bank_is z b' = grind (arith, nat_tests)
 
 lt_or_eq : (k p : ℕ) → k ≤ p → (k < p) ⊎ (k ≡ p)
 lt_or_eq k p above = elim (k == p) as (λ v. (k == p) ≡ v → (k < p) ⊎ (k ≡ p)) [
-  true ↦ λ is. inr (grind (arith, nat_tests, is))
+  | true ↦ λ is. inr (grind (arith, nat_tests, is))
   | false ↦ λ is. inl (grind (arith, nat_tests, is))
 ] refl
 
@@ -38,7 +38,7 @@ find_book (book ∷ books) k p zone bank each above within z b =
     let zone_is : book.zone ≡ k / banks = first.0 ∙ ap (λ n. n / banks) (let e : k + 0 ≡ k = omega arith in e) in
     let bank_is : book.bank ≡ k % banks = first.1 ∙ ap (λ n. n % banks) (let e : k + 0 ≡ k = omega arith in e) in
     elim (lt_or_eq k p above) as (λ v. or_fresh (cond (is_book_of zone bank book) (Some book) (find (is_book_of zone bank) books)) ≡ get_or (book ∷ books) (p - k) (fresh 0 0)) [
-      inl below ↦
+      | inl below ↦
           let later : p - k ≡ suc (p - (k + 1)) = omega (arith, below) in
           let rest : or_fresh (find (is_book_of zone bank) books) ≡ get_or books (p - (k + 1)) (fresh 0 0) =
           find_book books (k + 1) p zone bank
