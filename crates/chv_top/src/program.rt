@@ -148,7 +148,6 @@ fn play_scene<K: Sink, D: Disk + Drop>(
     ensures disks { result.disks.items ≡ disks.items }
     ensures later { K.write_faults out.old ≤ K.write_faults out.new }
 {
-    let sessions = scene.sessions.as_slice();
     let (disks, back) = match given(alloc, disks) {
         Ok(both) => both,
         Err(disks) => {
@@ -158,18 +157,37 @@ fn play_scene<K: Sink, D: Disk + Drop>(
             };
         }
     };
-    let played = play(
-        alloc,
-        Start {
-            disks,
-            sessions: sessions.len() as u32,
-        },
-        sessions,
-    );
+    let played = play_sessions(alloc, disks, scene.sessions.as_slice());
     Ended {
         status: report(alloc, out, played.trace, played.cause),
-        disks: handed_back(played.start.disks, back),
+        disks: handed_back(played.disks, back),
     }
+}
+
+// Plays sessions over banks to which nothing happened yet.
+fn play_sessions<D: Disk + Drop>(
+    alloc: Global,
+    disks: Vec<(Name, AnyDisk<D>)>,
+    sessions: &[Row<Asked>],
+) -> Played<D>
+    requires few { length sessions.now ≤ 16 }
+    ensures comes { Comes (control_shelf_of (sectors_of D.sector_count) disks.items)
+        (schedule (control_shelf_of (sectors_of D.sector_count) disks.items) sessions.now) result.trace result.cause }
+    ensures disks { result.disks.items ≡ disks.items }
+{
+    let Ok(zones) = LentBanks::new(alloc) else {
+        return Played {
+            trace: None,
+            cause: Some(StopCause::Memory),
+            disks,
+        };
+    };
+    let start = Start {
+        disks,
+        zones,
+        sessions: sessions.len() as u32,
+    };
+    play(alloc, start, sessions)
 }
 
 // Writes a trace, or the line of the book that is full.
