@@ -94,7 +94,7 @@ impl<D: Disk> PlayDesk<D> {
             ≡ unless_full (full_for (shelf_of (sectors_of D.sector_count) self.old.control.disks) self.old.control self.old.caller call.now)
             (reply_to (shelf_of (sectors_of D.sector_count) self.old.control.disks) self.old.control.machine call.now)) }
         ensures entered { IfOk result (λ answer. IfOk answer (λ reply. self.new ≡ record self.old {
-            control = entered_with_banks self.old.control (record { caller = self.old.caller; call = call.now; reply = reply })
+          control = entered_with_banks self.old.control (record { caller = self.old.caller; call = call.now; reply = reply });
         })) }
         ensures fits { is_session_call call.now ≡ true → IfOk result (λ answer. IfOk answer (λ reply. can_have call.now reply ≡ true)) }
         ensures refused { IfOk result (λ answer. OnErr answer (self.new ≡ self.old)) }

@@ -4,7 +4,7 @@ ghost use Rattle.chv_defs_api.specs.declared.shelf.OnShelf.{OnShelf};
 ghost use Rattle.chv_defs_base.specs.declared.book.Full as defs_full;
 ghost use Rattle.chv_defs.specs.declared.trace.Trace as defs_trace;
 ghost use Rattle.chv_defs.specs.Schedule.{schedule};
-ghost use Rattle.chv_control.specs.Shelf.{shelf_of};
+ghost use Rattle.chv_control.specs.Shelf.{sectors_of, shelf_of};
 ghost use Rattle.chv_play.specs.Played.{Comes};
 ghost use Rattle.chv_top.specs.Outcome.{TakesAtMost};
 ghost use Rattle.chv_top.specs.Says.{IsPlain, IsScene, Reports, ReportsFull, ReportsTrace, Says, StopsBy, Tells};
@@ -14,10 +14,12 @@ use crate::input::{InputError, read_input};
 use crate::lines::{full, read_fault, scene_fault, too_long, write};
 use crate::status::{Ended, Status};
 use chv_control::Start;
-use chv_defs::{Full, Name, Scene, StopCause, Trace};
+use chv_defs::{Asked, Full, Name, Row, Scene, StopCause, Trace};
+use chv_guest::LentBanks;
 use chv_io::{Disk, Sink, Source};
-use chv_play::play;
+use chv_play::{Played, play};
 use chv_scene::SceneFault;
+use chv_store::AnyDisk;
 use chv_trace::{PrintError, print};
 use std::alloc::{AllocError, Global};
 
@@ -171,8 +173,8 @@ fn play_sessions<D: Disk + Drop>(
     sessions: &[Row<Asked>],
 ) -> Played<D>
     requires few { length sessions.now ≤ 16 }
-    ensures comes { Comes (control_shelf_of (sectors_of D.sector_count) disks.items)
-        (schedule (control_shelf_of (sectors_of D.sector_count) disks.items) sessions.now) result.trace result.cause }
+    ensures comes { Comes (shelf_of (sectors_of D.sector_count) disks.items)
+        (schedule (shelf_of (sectors_of D.sector_count) disks.items) sessions.now) result.trace result.cause }
     ensures disks { result.disks.items ≡ disks.items }
 {
     let Ok(zones) = LentBanks::new(alloc) else {
