@@ -14,3 +14,4 @@ pub mod LeadLemmas
 pub mod RoundLoopLemmas
 pub mod PlayedLemmas
 pub mod CallerLemmas
+pub mod TraceLemmas

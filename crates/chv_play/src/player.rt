@@ -154,6 +154,8 @@ fn play_on<D: Disk>(
     let mut desk = PlayDesk::new(control);
     let outcome = run(alloc, &mut desk, sessions);
     let control = desk.into_control();
+    control.history();
+    control.zones().recall();
     match outcome {
         Ok(Ok(logs)) => trace_of(alloc, control, logs),
         Ok(Err(full)) => stopped(StopCause::Full(full), control.into_parts().1.disks),
