@@ -29,8 +29,8 @@ use Rattle.chv_defs_control.proofs.CallsFor.{calls_for-push}
 use Rattle.chv_addr.specs.AddressMap.{is_within_limits}
 use Rattle.chv_addr.proofs.Limits.{checked-within}
 use Rattle.chv_ctl_mem.specs.ZoneCalls.{AreAsBefore, AreAtRest, IsAtRestSo}
-use Rattle.chv_control.specs.Rest.{AreKept, AreQuiet, AreUntouched, IsQuiet}
-use Rattle.chv_control.proofs.MadeLaws.{made-none, owned-with_calls}
+use Rattle.chv_control.specs.Rest.{AreKept, IsQuiet}
+use Rattle.chv_defs_memory.proofs.MadeLaws.{made-none, owned-with_calls}
 use Rattle.chv_control.proofs.QuietSteps.{quiet-after}
 
 -- ---- the link
@@ -67,19 +67,6 @@ AreKept-same m history lent left old new kept same home = record {
   linked = λ zone bank is. ap (λ (known : Known). owned known.history) (same zone bank is) ∙ kept.linked zone bank is;
   home = home;
   quiet = λ zone bank is. subst (IsQuiet m zone bank) (sym (same zone bank is)) (kept.quiet zone bank is);
-}
-
--- banks to which nothing happened yet
-pub AreKept-fresh : (lent : List ℕ) (known : ℕ → ℕ → Known) → lent ≡ [] → AreUntouched known → AreKept empty_machine [] lent known
-AreKept-fresh lent known home untouched = record {
-  linked = λ zone bank is. ap (λ (k : Known). owned k.history) (untouched zone bank is);
-  home = home;
-  quiet = λ zone bank is. subst (IsQuiet empty_machine zone bank) (sym (untouched zone bank is)) (record {
-    rest = refl;
-    frozen = refl;
-    opened = λ block mine. refl;
-    unsealed = λ block. refl;
-  });
 }
 
 -- ---- what the calls in the banks ask for
@@ -134,3 +121,9 @@ called-at-stop m history lent known kept zone bank is =
     by None k calls rest none = (([], refl, sym (append-nil k.history)), refl)
     by (Some config) k calls rest none =
         (subst (λ (cs : List BankCall). AreMade [] bank k.history cs k.history) (sym none) ([], refl, sym (append-nil k.history)), rest)
+
+-- the banks behind a Stop
+pub AreKept-stop : (shelf : List OnShelf) (m : Machine) (caller : ℕ) (history : List ControlEntry) (lent : List ℕ) (known : ℕ → ℕ → Known) → AreKept m history lent known → IsLegal shelf history m
+    → AreKept (record m { stopped = true }) (history ++ record { caller = caller; call = call.Stop; reply = reply.Done } ∷ []) lent known
+AreKept-stop shelf m caller history lent known kept legal =
+    AreKept-after shelf m history (record { caller = caller; call = call.Stop; reply = reply.Done }) lent lent known known kept legal refl (called-at-stop m history lent known kept) kept.home

@@ -1,6 +1,6 @@
+pub mod Answered
 pub mod Kept
 pub mod KeptBanks
-pub mod MadeLaws
 pub mod QuietBanks
 pub mod QuietSteps
 pub mod Refusals

@@ -16,7 +16,7 @@ use Rattle.chv_defs_memory.specs.Zones.{Known}
 use Rattle.chv_defs_memory.proofs.ZoneLaws.{goes-on-none, sees-none, thawed-by-thaw}
 use Rattle.chv_defs_control.specs.OwnerCalls.{IsLeft}
 use Rattle.chv_control.specs.Rest.{boot_blocks_of}
-use Rattle.chv_control.proofs.MadeLaws.{frozen-stays, made-none, open-decided, sealed-decided}
+use Rattle.chv_defs_memory.proofs.MadeLaws.{frozen-stays, made-none, open-decided, sealed-decided}
 
 -- A bank between control turns, by whether the machine is paused, whether it is booted, and the zone's configuration where it
 -- is in effect.

@@ -5,7 +5,7 @@ ghost use Rattle.chv_defs_api.specs.declared.control.ControlCall.TheVariants.{St
 ghost use Rattle.chv_defs_base.specs.Sizes.{most_entries, most_payload};
 ghost use Rattle.chv_defs_control.specs.Shown.{shown};
 ghost use Rattle.chv_defs_api.specs.Desks.{can_have, is_held, is_session_call};
-ghost use Rattle.chv_defs_control.specs.ControlBook.{is_stop, payload, places};
+ghost use Rattle.chv_defs_control.specs.ControlBook.{payload, places};
 ghost use Rattle.chv_defs_control.specs.Machine.{empty_machine};
 ghost use Rattle.chv_defs_api.specs.declared.control.ControlReply.TheVariants.{Done};
 ghost use Rattle.chv_defs_control.specs.ControlStep.{MayCall};
@@ -16,10 +16,10 @@ ghost use Rattle.chv_ctl_mem.specs.ZoneCalls.{AreAsBefore};
 use crate::books::make_calls;
 use crate::entries::{make_room, put_entry};
 use crate::inner::Inner;
-use crate::made::{leave, make};
+use crate::made::make;
 use crate::shelf::shelf_of;
 use crate::start::Start;
-use chv_ctl_api::show;
+use chv_ctl_api::{api_commit, show};
 use chv_defs_api::{ControlCall, ControlEntry, ControlReply, Info, OnShelf};
 use chv_defs_base::{Name, Row, beside};
 use chv_defs_control::{Life, Machine};
@@ -133,10 +133,29 @@ impl<D: Disk, Z: Banked> Control<D, Z> {
         ensures err_banks { OnErr result (AreAsBefore (Z.known self.old.zones) (Z.known self.new.zones)) }
         ensures books { Z.books self.new.zones ≡ Z.books self.old.zones }
     {
-        match call {
-            ControlCall::Stop => Ok(Ok(self.stop(caller))),
-            _ => self.enter(rt, caller, call),
+        if let ControlCall::Stop = call {
+            return Ok(Ok(self.stop(caller)));
         }
+        make_room(&mut self.history)?;
+        let made = make(self.alloc, &self.machine, &self.shelf, caller, call)?;
+        let called = make_calls(
+            rt,
+            &self.machine,
+            self.history.as_slice(),
+            self.bytes,
+            &mut self.zones,
+            &made,
+        );
+        let (called, made) = beside(called, made)?;
+        if let Err(full) = called {
+            // (said here, so that the proof has one call in place of a case for each kind of call and reply)
+            drop(made);
+            return Ok(Err(Inner::Full(full)));
+        }
+        api_commit(&mut self.machine, made.change);
+        self.bytes += made.added;
+        put_entry(&mut self.history, made.entry);
+        Ok(Ok(made.reply))
     }
 
     // Enters a Stop, for which there is room. It makes no call in a bank.
@@ -154,52 +173,6 @@ impl<D: Disk, Z: Banked> Control<D, Z> {
         };
         put_entry(&mut self.history, entry);
         ControlReply::Done
-    }
-
-    // Makes any other call.
-    fn enter<R: Copy>(
-        &mut self,
-        rt: R,
-        caller: u32,
-        call: &ControlCall,
-    ) -> Result<Result<ControlReply, Inner>, AllocError>
-    where
-        Z: Zones<R>,
-        requires may { MayCall self.old.machine caller call.now }
-        requires other { is_stop call.now ≡ false }
-        ensures answer { IfOk result (λ answer. answer
-            ≡ answer_to (shelf_of (sectors_of D.sector_count) self.old.disks) (Z.known self.old.zones) self.old caller call.now) }
-        ensures entered { IfOk result (λ answer. IfOk answer (λ reply. self.new
-            ≡ record (entered self.old (record { caller = caller; call = call.now; reply = reply })) { zones = self.new.zones })) }
-        ensures called { IfOk result (λ answer. IfOk answer (λ reply.
-            HaveTheCalls [] self.old.machine call.now reply (Z.known self.old.zones) (Z.known self.new.zones))) }
-        ensures fits { is_session_call call.now ≡ true → IfOk result (λ answer. IfOk answer (λ reply. can_have call.now reply ≡ true)) }
-        ensures refused { IfOk result (λ answer. OnErr answer (self.new ≡ record self.old { zones = self.new.zones })) }
-        ensures unchanged { IfOk result (λ answer. OnErr answer (AreAsBefore (Z.known self.old.zones) (Z.known self.new.zones))) }
-        ensures err { OnErr result (self.new ≡ record self.old { zones = self.new.zones }) }
-        ensures err_banks { OnErr result (AreAsBefore (Z.known self.old.zones) (Z.known self.new.zones)) }
-        ensures books { Z.books self.new.zones ≡ Z.books self.old.zones }
-    {
-        make_room(&mut self.history)?;
-        let made = make(self.alloc, &self.machine, &self.shelf, caller, call)?;
-        let called = make_calls(
-            rt,
-            &self.machine,
-            self.history.as_slice(),
-            self.bytes,
-            &mut self.zones,
-            &made,
-        );
-        let (called, made) = beside(called, made)?;
-        if let Err(full) = called {
-            // (said here, so that the proof has one call in place of a case for each kind of call and reply)
-            drop(made);
-            return Ok(Err(Inner::Full(full)));
-        }
-        let made = leave(&mut self.machine, made);
-        self.bytes += made.added;
-        put_entry(&mut self.history, made.entry);
-        Ok(Ok(made.reply))
     }
 
     /// What `vm.info` shows. There is a machine.
