@@ -38,6 +38,7 @@ use Rattle.chv_play.proofs.DeskLemmas.{Enters, enters_stays, enters_no_other, ne
 use Rattle.chv_play.proofs.NextLemmas.{turned_or_halted}
 use Rattle.chv_play.proofs.OrderLemmas.{turn_ordered}
 use Rattle.chv_play.specs.Banks.{PlayedControl, entered_with_banks}
+use Rattle.chv_play.proofs.BankLemmas.{traced_behind}
 
 -- ---- what the schedule says
 

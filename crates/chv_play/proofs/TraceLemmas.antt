@@ -1,5 +1,5 @@
 -- The trace that is due is legal.
-use Rattle.std.proofs.Common.{◌≡◌, ℕ, ◌+◌, ◌<◌, ◌/◌, ◌%◌, List, [], ◌∷◌, filter, length, map, get_or, Ok, refl, sym, ap, subst, ◌∙◌, arith}
+use Rattle.std.proofs.Common.{◌≡◌, ℕ, ◌+◌, ◌<◌, ◌/◌, ◌%◌, List, [], ◌∷◌, filter, length, ◌++◌, map, get_or, Option, None, Some, Result, Ok, Err, MatchOption, OnOk, refl, sym, ap, subst, ◌∙◌, arith}
 use Rattle.std.specs.List.{AllByRecursion, range_with_len}
 use Rattle.std.proofs.lemmas.List.{ext_get_or, get_or-map, length-map}
 use Rattle.chv_defs_api.specs.declared.control.ControlEntry.{ControlEntry}
@@ -20,12 +20,16 @@ use Rattle.chv_defs.specs.declared.trace.Trace.{Trace}
 use Rattle.chv_defs.specs.LegalTrace.{entries_in, Ascend, AreInOrder, IsLegalBank, IsLegalTrace}
 use Rattle.chv_defs.specs.Schedule.{has_entries, schedule}
 use Rattle.chv_defs.specs.Schedule as schedule_of
-use Rattle.chv_defs.proofs.BankOrder.{entries_filter, fresh_ascend, key, same_keys_ascend}
+use Rattle.chv_defs.proofs.BankOrder.{all_append, entries_filter, fresh_ascend, key, same_keys_ascend}
 use Rattle.chv_defs.proofs.ScheduleBanks.{scheduled_banks, IsOwnersBank}
 use Rattle.chv_guest.specs.LentBanks.{bank_count, fresh_banks, known_at, AreAllBanks, Lent}
 use Rattle.chv_guest.proofs.ZoneBanks.{AreAllBanks-fresh}
-use Rattle.chv_play.specs.Banks.{as_trace, traced}
-use Rattle.chv_play.specs.Played.{trace_with, AreLegalBanks}
+use Rattle.chv_store.specs.declared.any_disk.AnyDisk.{AnyDisk}
+use Rattle.chv_defs_api.specs.declared.context.StopCause.{StopCause}
+use Rattle.chv_defs_api.specs.declared.context.StopCause.TheVariants as stop
+use Rattle.chv_control.specs.Shelf.{shelf_of}
+use Rattle.chv_play.specs.Banks.{as_trace, traced, PlayedControl}
+use Rattle.chv_play.specs.Played.{trace_with, AreLegalBanks, Comes, Gives}
 use Rattle.chv_play.proofs.BankLemmas.{entries_known}
 use Rattle.chv_play.proofs.CallerLemmas.{scheduled_of_sessions}
 
@@ -87,3 +91,28 @@ legal_trace shelf sessions trace machine history zones logs due is legal_of lega
       callers = told.callers;
       in_order = subst (λ (h : List ControlEntry). AreInOrder h trace.sessions) control (subst (λ (ls : List SessionTrace). AreInOrder history ls) logs_are in_order);
     }
+
+-- a bank more
+pub legal_pushed : {E : Type 0} (result : Result (Unit {0}) E) (old new : List BankTrace) (b : BankTrace) → OnOk result (new ≡ old ++ b ∷ [])
+    → bank_law.IsLegal b.bank b.entries → OnOk result (AreLegalBanks old → AreLegalBanks new)
+legal_pushed {E} (Ok done) old new b is legal = λ all. subst AreLegalBanks (sym is) (all_append (λ (c : BankTrace). bank_law.IsLegal c.bank c.entries) old (b ∷ []) all (legal, tt))
+legal_pushed {E} (Err error) old new b is legal = tt
+
+-- what playing comes to
+pub comes_legal : {D : Type 0} (count : AnyDisk D → ℕ) (sessions : List (List Asked)) (start control : PlayedControl D) (logs : List SessionTrace)
+    (trace : Option Trace) (cause : Option StopCause)
+    → Gives (schedule (shelf_of count start.disks) sessions) control (Ok logs) → control.disks ≡ start.disks
+    → IsLegal (shelf_of count control.disks) control.history control.machine → IsLinked control.history (λ zone bank. (known_at control.zones.books zone bank).history)
+    → AreAllBanks control.zones.books
+    → MatchOption trace (cause ≡ Some stop.Memory) (λ t. (cause ≡ None) × (t ≡ trace_with control.history (traced control.zones) logs) × AreLegalBanks t.banks)
+    → Comes (shelf_of count start.disks) (schedule (shelf_of count start.disks) sessions) trace cause
+comes_legal {D} count sessions start control logs None cause gives disks legal linked all came =
+    subst (λ (c : Option StopCause). Comes (shelf_of count start.disks) (schedule (shelf_of count start.disks) sessions) None c) (sym came) tt
+comes_legal {D} count sessions start control logs (Some trace) cause gives disks legal linked all came =
+    let shelf = shelf_of count start.disks in
+    let due : schedule shelf sessions ≡ Ok trace = gives.0 ∙ ap (λ (t : Trace). Ok t) (sym came.1) in
+    subst (λ (c : Option StopCause). Comes shelf (schedule shelf sessions) (Some trace) c) (sym came.0) (
+      due,
+      legal_trace shelf sessions trace control.machine control.history control.zones logs due came.1 came.2
+          (subst (λ disks. IsLegal (shelf_of count disks) control.history control.machine) disks legal) linked all gives.1,
+    )

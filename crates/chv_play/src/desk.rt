@@ -83,7 +83,9 @@ impl<D: Disk> PlayDesk<D> {
         match self.apply(call)? {
             Ok(reply) => Ok(Ok(reply)),
             Err(Inner::Full(full)) => self.refuse(call, full),
-            Err(_) => unreachable!(),
+            Err(Inner::Again { .. }) => unreachable!(),
+            Err(Inner::NotYet) => unreachable!(),
+            Err(Inner::Over) => unreachable!(),
         }
     }
 

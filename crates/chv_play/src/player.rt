@@ -116,6 +116,14 @@ fn stopped<D>(cause: StopCause, disks: Vec<(Name, AnyDisk<D>)>) -> Played<D>
     }
 }
 
+/// The disks that stand by at a control value.
+fn disks_of<D: Disk>(control: Control<D, LentBanks>) -> Vec<(Name, AnyDisk<D>)>
+    ensures { result.items ≡ control.disks }
+{
+    let (_history, start) = control.into_parts();
+    start.disks
+}
+
 /// The trace of a control value whose sessions left these logs.
 fn trace_of<D: Disk>(
     alloc: Global,
@@ -158,8 +166,8 @@ fn play_on<D: Disk>(
     control.zones().recall();
     match outcome {
         Ok(Ok(logs)) => trace_of(alloc, control, logs),
-        Ok(Err(full)) => stopped(StopCause::Full(full), control.into_parts().1.disks),
-        Err(AllocError) => stopped(StopCause::Memory, control.into_parts().1.disks),
+        Ok(Err(full)) => stopped(StopCause::Full(full), disks_of(control)),
+        Err(AllocError) => stopped(StopCause::Memory, disks_of(control)),
     }
 }
 
