@@ -183,6 +183,13 @@ impl<D: Disk, Z: Banked> Control<D, Z> {
         show(self.alloc, &self.machine)
     }
 
+    /// The banks of all zones.
+    pub fn zones(&self) -> &Z
+        ensures { result.now ≡ self.now.zones }
+    {
+        &self.zones
+    }
+
     /// Whether a Stop was entered.
     pub fn stopped(&self) -> bool
         ensures { result ≡ self.now.machine.stopped }

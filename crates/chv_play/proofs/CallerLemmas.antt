@@ -10,10 +10,9 @@ use Rattle.chv_defs_api.specs.declared.shelf.OnShelf.{OnShelf}
 use Rattle.chv_defs.specs.declared.trace.SessionTrace.{SessionTrace}
 use Rattle.chv_defs.specs.declared.trace.Trace.{Trace}
 use Rattle.chv_defs_control.specs.ApiStep.{reply_to}
-use Rattle.chv_defs_control.specs.ControlBook.{full_at}
 use Rattle.chv_defs_api.specs.Routes.{reply_to_call}
-use Rattle.chv_defs.specs.Schedule.{Turn, Answers, Leaves, Visit, Stage, numbered, turn_of, round_of, rounds_of, all_turns, first_stage, entry_of, with_entry, with_reply, unless_full, after_turn, then_from, after_turns, visit_of, log_of, trace_at, trace_of, stream_of, schedule}
-use Rattle.chv_play.specs.Played.{AreNumbered, IsCallOfOne, AreCallsOf}
+use Rattle.chv_defs.specs.Schedule.{Turn, Answers, Leaves, Visit, Stage, numbered, turn_of, round_of, rounds_of, all_turns, first_stage, entry_of, full_for, with_entry, with_reply, unless_full, after_turn, then_from, after_turns, visit_of, log_of, trace_at, trace_of, stream_of, schedule}
+use Rattle.chv_defs.specs.LegalTrace.{AreNumbered, IsCallOfOne, AreCallsOf}
 
 -- ---- the turns
 
@@ -78,11 +77,11 @@ after_turn_of_one : (shelf : List OnShelf) (sessions : ℕ) (s next : Stage) (se
 after_turn_of_one shelf sessions s next session (Answers (Err rule) last) one all is =
     unless_full_of_one sessions None (record s { replies = _ }) next all is
 after_turn_of_one shelf sessions s next session (Answers (Ok c) last) one all is =
-    unless_full_of_one sessions (full_at s.machine s.history (entry_of shelf s session c))
+    unless_full_of_one sessions (full_for shelf s session c)
     (with_reply session (reply_to_call c (reply_to shelf s.machine c) last) (with_entry shelf session c s)) next
     (all_append (IsCallOfOne sessions) s.history (entry_of shelf s session c ∷ []) all (one, tt)) is
 after_turn_of_one shelf sessions s next session (Leaves how) one all is =
-    unless_full_of_one sessions (full_at s.machine s.history (entry_of shelf s session call.Bye)) (with_entry shelf session call.Bye s) next
+    unless_full_of_one sessions (full_for shelf s session call.Bye) (with_entry shelf session call.Bye s) next
     (all_append (IsCallOfOne sessions) s.history (entry_of shelf s session call.Bye ∷ []) all (one, tt)) is
 
 -- what follows a turn, unless a book was full

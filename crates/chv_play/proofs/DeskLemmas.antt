@@ -14,11 +14,11 @@ use Rattle.chv_defs_control.specs.ApiStep.{reply_to, refusal_of, refused_or, suc
 use Rattle.chv_defs_api.specs.Desks.{Answer, AreAsked, IsOnlyAsked, is_holding}
 use Rattle.chv_defs_control.specs.LegalControl.{answers_by, entries_by}
 use Rattle.chv_store.specs.declared.any_disk.AnyDisk.{AnyDisk}
-use Rattle.chv_control.specs.Control.{Controlled, entered}
 use Rattle.chv_control.specs.Shelf.{shelf_of}
 use Rattle.chv_play.specs.declared.desk.PlayDesk.{PlayDesk}
 use Rattle.chv_play.specs.declared.desk.Refused.{Refused}
 use Rattle.chv_play.specs.Desk.{entry_at, full_for, IsAskedOf}
+use Rattle.chv_play.specs.Banks.{PlayedControl, entered_with_banks}
 
 -- ---- a caller's calls, behind one more entry
 
@@ -58,23 +58,23 @@ other_entry caller other history c r differs =
 -- ---- calls that were entered
 
 -- These calls of a caller were entered one after another, each in a book that had room, with its answer by the rules.
-abbrev pub Enters : {D : Type 0} → List OnShelf → ℕ → Controlled D → List Answer → Controlled D → Type 0
+abbrev pub Enters : {D : Type 0} → List OnShelf → ℕ → PlayedControl D → List Answer → PlayedControl D → Type 0
 Enters shelf caller old [] new = new ≡ old
 Enters shelf caller old (a ∷ made) new =
     (full_for shelf old caller a.call ≡ None) × (a.reply ≡ reply_to shelf old.machine a.call)
-    × Enters shelf caller (entered old (entry_at shelf old caller a.call)) made new
+    × Enters shelf caller (entered_with_banks old (entry_at shelf old caller a.call)) made new
 
-pub enters_stays : {D : Type 0} (shelf : List OnShelf) (caller : ℕ) (old : Controlled D) (made : List Answer) (new : Controlled D)
+pub enters_stays : {D : Type 0} (shelf : List OnShelf) (caller : ℕ) (old : PlayedControl D) (made : List Answer) (new : PlayedControl D)
     → Enters shelf caller old made new → (new.disks ≡ old.disks) × (new.sessions ≡ old.sessions)
-enters_stays {D} shelf caller old [] new same = (ap (λ (c : Controlled D). c.disks) same, ap (λ (c : Controlled D). c.sessions) same)
+enters_stays {D} shelf caller old [] new same = (ap (λ (c : PlayedControl D). c.disks) same, ap (λ (c : PlayedControl D). c.sessions) same)
 enters_stays {D} shelf caller old (a ∷ made) new enters =
-    enters_stays shelf caller (entered old (entry_at shelf old caller a.call)) made new enters.2
+    enters_stays shelf caller (entered_with_banks old (entry_at shelf old caller a.call)) made new enters.2
 
-pub enters_no_other : {D : Type 0} (shelf : List OnShelf) (caller other : ℕ) (old : Controlled D) (made : List Answer) (new : Controlled D)
+pub enters_no_other : {D : Type 0} (shelf : List OnShelf) (caller other : ℕ) (old : PlayedControl D) (made : List Answer) (new : PlayedControl D)
     → other ≢ caller → Enters shelf caller old made new → answers_by other new.history ≡ answers_by other old.history
-enters_no_other {D} shelf caller other old [] new differs same = ap (λ (c : Controlled D). answers_by other c.history) same
+enters_no_other {D} shelf caller other old [] new differs same = ap (λ (c : PlayedControl D). answers_by other c.history) same
 enters_no_other {D} shelf caller other old (a ∷ made) new differs enters =
-    enters_no_other shelf caller other (entered old (entry_at shelf old caller a.call)) made new differs enters.2
+    enters_no_other shelf caller other (entered_with_banks old (entry_at shelf old caller a.call)) made new differs enters.2
     ∙ other_entry caller other old.history a.call (reply_to shelf old.machine a.call) differs
 
 -- no answer is Holding so far
@@ -90,7 +90,7 @@ never_holding shelf m c r is = ap is_holding is ∙ not_holding m (refusal_of sh
 -- ---- calls that were asked
 
 -- the book is full for the call that a desk tells, where it tells one
-abbrev pub TellsFull : {D : Type 0} → List OnShelf → ℕ → Controlled D → Option Refused → Type 0
+abbrev pub TellsFull : {D : Type 0} → List OnShelf → ℕ → PlayedControl D → Option Refused → Type 0
 TellsFull shelf caller control None = Unit {0}
 TellsFull shelf caller control (Some refused) = full_for shelf control caller refused.call ≡ Some refused.full
 

@@ -11,11 +11,12 @@ use Rattle.chv_defs_api.specs.declared.control.ControlCall.{ControlCall}
 use Rattle.chv_defs_api.specs.declared.control.ControlCall.TheVariants as call
 use Rattle.chv_defs_api.specs.declared.control.ControlReply.{ControlReply}
 use Rattle.chv_defs_api.specs.declared.control.ControlReply.TheVariants as reply
-use Rattle.chv_defs_control.specs.ApiStep.{reply_to}
+use Rattle.chv_defs_control.specs.ApiStep.{after, reply_to}
 use Rattle.chv_defs_api.specs.Desks.{Answer, IsOnlyAsked}
 use Rattle.chv_defs_control.specs.LegalControl.{answers_by}
 use Rattle.chv_defs_api.specs.Routes.{reply_to_call}
-use Rattle.chv_defs.specs.Schedule.{Turn, Answers, Leaves, with_reply, with_entry, after_turn, replies_to}
+use Rattle.chv_defs.specs.declared.trace.BankTrace.{BankTrace}
+use Rattle.chv_defs.specs.Schedule.{Stage, Turn, Answers, Leaves, with_reply, with_entry, after_turn, replies_to}
 use Rattle.chv_defs.specs.Schedule as schedule
 use Rattle.chv_session.specs.declared.next.Next.{Next}
 use Rattle.chv_session.specs.declared.state.State.TheVariants as state
@@ -24,42 +25,55 @@ use Rattle.chv_session.specs.Step.{ComesTo, is_over}
 use Rattle.chv_session.specs.Taking.{TakesPieces}
 use Rattle.chv_session.specs.Wire.{Drains}
 use Rattle.chv_store.specs.declared.any_disk.AnyDisk.{AnyDisk}
-use Rattle.chv_control.specs.Control.{Controlled}
 use Rattle.chv_control.specs.Shelf.{shelf_of}
 use Rattle.chv_play.specs.declared.desk.PlayDesk.{PlayDesk}
 use Rattle.chv_play.specs.declared.desk.Refused.{Refused}
 use Rattle.chv_play.specs.declared.seat.Seat.{Seat}
 use Rattle.chv_play.specs.Ahead.{Does}
-use Rattle.chv_play.specs.Desk.{call_of, full_of, full_for}
+use Rattle.chv_play.specs.Desk.{call_of, entry_at, full_of, full_for}
 use Rattle.chv_play.specs.Order.{played}
 use Rattle.chv_play.specs.Round.{stage_at, TurnsOut}
 use Rattle.chv_play.specs.Turns.{call_in, with_reply_of, TurnedOrHalted}
 use Rattle.chv_play.proofs.DeskLemmas.{Enters, enters_stays, enters_no_other, never_holding, TellsFull, CallsLeave, asks_at, asked_leaves}
 use Rattle.chv_play.proofs.NextLemmas.{turned_or_halted}
 use Rattle.chv_play.proofs.OrderLemmas.{turn_ordered}
+use Rattle.chv_play.specs.Banks.{PlayedControl, entered_with_banks}
+use Rattle.chv_play.proofs.BankLemmas.{traced_behind}
 
 -- ---- what the schedule says
 
 -- a call that is answered Holding was not entered
-held_never : {A D : Type 0} (shelf : List OnShelf) (caller : ℕ) (c : ControlCall) (more : List Answer) (old new : Controlled D)
+held_never : {A D : Type 0} (shelf : List OnShelf) (caller : ℕ) (c : ControlCall) (more : List Answer) (old new : PlayedControl D)
     → Enters shelf caller old (record { call = c; reply = reply.Holding } ∷ more) new → A
 held_never {A} {D} shelf caller c more old new enters = absurd (cc (never_holding shelf old.machine c reply.Holding enters.1))
 
 -- the one call of a turn was entered
-one_entered : {D : Type 0} (shelf : List OnShelf) (caller : ℕ) (c : ControlCall) (answer : Answer) (made : List Answer) (old new : Controlled D)
+one_entered : {D : Type 0} (shelf : List OnShelf) (caller : ℕ) (c : ControlCall) (answer : Answer) (made : List Answer) (old new : PlayedControl D)
     → Enters shelf caller old made new → made ≡ answer ∷ [] → answer.call ≡ c
     → Enters shelf caller old (record { call = c; reply = answer.reply } ∷ []) new
 one_entered {D} shelf caller c answer made old new enters is same =
     subst (λ (calls : List Answer). Enters shelf caller old calls new)
     (is ∙ ap (λ (x : ControlCall). record { call = x; reply = answer.reply } ∷ []) same) enters
 
-pub leads : {D : Type 0} (shelf : List OnShelf) (caller : ℕ) (turn : Turn) (old new : Controlled D) (made : List Answer) (bytes : List ℕ)
+-- the stage behind an entry, with its banks
+stage_entered : {D : Type 0} (shelf : List OnShelf) (caller : ℕ) (c : ControlCall) (control : PlayedControl D) (replies : List (ℕ × List ℕ))
+    → with_entry shelf caller c (stage_at control replies) ≡ stage_at (entered_with_banks control (entry_at shelf control caller c)) replies
+stage_entered {D} shelf caller c control replies =
+    let e = entry_at shelf control caller c in
+    ap (λ (bs : List BankTrace). record {
+      machine = after control.machine caller c (reply_to shelf control.machine c);
+      history = control.history ++ e ∷ [];
+      banks = bs;
+      replies = replies;
+    }) (traced_behind control.machine e control.zones)
+
+pub leads : {D : Type 0} (shelf : List OnShelf) (caller : ℕ) (turn : Turn) (old new : PlayedControl D) (made : List Answer) (bytes : List ℕ)
     → Enters shelf caller old made new → Does turn made bytes → (replies : List (ℕ × List ℕ))
     → after_turn shelf (stage_at old replies) caller turn ≡ Ok (stage_at new (with_reply_of turn caller bytes replies))
 leads {D} shelf caller (Answers (Err rule) last) old new made bytes enters does replies =
     let same : new ≡ old = subst (λ (calls : List Answer). Enters shelf caller old calls new) does.0 enters in
     ap (λ (b : List ℕ). Ok (stage_at old (replies ++ (caller, b) ∷ []))) (sym does.1)
-    ∙ ap (λ (x : Controlled D). Ok (stage_at x (replies ++ (caller, bytes) ∷ []))) (sym same)
+    ∙ ap (λ (x : PlayedControl D). Ok (stage_at x (replies ++ (caller, bytes) ∷ []))) (sym same)
 leads {D} shelf caller (Answers (Ok c) last) old new made bytes enters (answer, (goes, inl one), is) replies =
     let s = stage_at old replies in
     let entry = one_entered shelf caller c answer made old new enters one.1 one.0 in
@@ -67,18 +81,20 @@ leads {D} shelf caller (Answers (Ok c) last) old new made bytes enters (answer, 
     sym (is ∙ ap (λ (x : ControlCall). reply_to_call x answer.reply last) one.0 ∙ ap (λ (x : ControlReply). reply_to_call c x last) entry.1) in
     ap (λ (f : Option Full). schedule.unless_full f (with_reply caller (reply_to_call c (reply_to shelf old.machine c) last) (with_entry shelf caller c s))) entry.0
     ∙ ap (λ (b : List ℕ). Ok (with_reply caller b (with_entry shelf caller c s))) bytes_are
-    ∙ ap (λ (x : Controlled D). Ok (stage_at x (replies ++ (caller, bytes) ∷ []))) (sym entry.2)
+    ∙ ap (λ (x : Stage). Ok (with_reply caller bytes x)) (stage_entered shelf caller c old replies)
+    ∙ ap (λ (x : PlayedControl D). Ok (stage_at x (replies ++ (caller, bytes) ∷ []))) (sym entry.2)
 leads {D} shelf caller (Answers (Ok c) last) old new made bytes enters (answer, (goes, inr two), is) replies =
     held_never shelf caller c (answer ∷ []) old new (subst (λ (calls : List Answer). Enters shelf caller old calls new) two.1 enters)
 leads {D} shelf caller (Leaves how) old new made bytes enters (bye, is_bye, made_is, none) replies =
     let entry = one_entered shelf caller call.Bye bye made old new enters made_is is_bye in
     ap (λ (f : Option Full). schedule.unless_full f (with_entry shelf caller call.Bye (stage_at old replies))) entry.0
-    ∙ ap (λ (x : Controlled D). Ok (stage_at x replies)) (sym entry.2)
+    ∙ ap (λ (x : Stage). Ok x) (stage_entered shelf caller call.Bye old replies)
+    ∙ ap (λ (x : PlayedControl D). Ok (stage_at x replies)) (sym entry.2)
 
 some_is : (a b : ControlCall) → Some a ≡ Some b → a ≡ b
 some_is a b same = cc
 
-pub leads_full : {D : Type 0} (shelf : List OnShelf) (caller : ℕ) (turn : Turn) (c : ControlCall) (old : Controlled D) (full : Full)
+pub leads_full : {D : Type 0} (shelf : List OnShelf) (caller : ℕ) (turn : Turn) (c : ControlCall) (old : PlayedControl D) (full : Full)
     → call_in turn ≡ Some c → full_for shelf old caller c ≡ Some full → (replies : List (ℕ × List ℕ))
     → after_turn shelf (stage_at old replies) caller turn ≡ Err full
 leads_full {D} shelf caller (Answers (Err rule) last) c old full is finds replies = absurd (cc is)

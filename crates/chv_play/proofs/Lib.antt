@@ -9,7 +9,9 @@ pub mod NextLemmas
 pub mod OrderLemmas
 pub mod DeskLemmas
 pub mod AskLemmas
+pub mod BankLemmas
 pub mod LeadLemmas
 pub mod RoundLoopLemmas
 pub mod PlayedLemmas
 pub mod CallerLemmas
+pub mod TraceLemmas

@@ -23,17 +23,19 @@ use Rattle.chv_session.specs.declared.state.State.{State}
 use Rattle.chv_session.specs.declared.state.State.TheVariants as state
 use Rattle.chv_session.specs.Talk.{Talk, new_talk, end_of}
 use Rattle.chv_session.specs.Step.{is_over}
-use Rattle.chv_control.specs.Control.{Controlled}
 use Rattle.chv_play.specs.declared.seat.Seat.{Seat}
 use Rattle.chv_play.specs.Ahead.{Ahead, ahead_in, ahead_of, ahead_from, standing_of, unanswered}
 use Rattle.chv_play.specs.Playing.{ahead_at, visit_ahead, behind_round, turns_left, EachFrom, ForEach, IsPut, Attends}
 use Rattle.chv_play.specs.Order.{IsOrdered, IsOrderedIn}
 use Rattle.chv_play.specs.Round.{Stands, stage_at, whole}
-use Rattle.chv_play.specs.Played.{IsNewSeat, AreNewSeats, AreOver, AreInOrder, Gives, log_at, logs_at, trace_with}
+use Rattle.chv_guest.specs.LentBanks.{Lent, fresh_zones}
+use Rattle.chv_defs.specs.LegalTrace.{AreInOrder}
+use Rattle.chv_play.specs.Played.{IsNewSeat, AreNewSeats, AreOver, Gives, log_at, logs_at, trace_with}
 use Rattle.chv_play.proofs.SeatLemmas.{begins, behind_begins}
 use Rattle.chv_play.proofs.RoundLemmas.{rounds_later}
 use Rattle.chv_play.proofs.EachLemmas.{for_each_so, for_each_numbered, for_each_length, for_each_more}
 use Rattle.chv_play.proofs.OrderLemmas.{new_ordered}
+use Rattle.chv_play.specs.Banks.{PlayedControl, traced}
 
 -- ---- the start
 
@@ -58,7 +60,7 @@ new_attends stream seat new = record {
   how = ap (λ (a : Ahead). a.how) (new_ahead stream seat new);
 }
 
-pub new_stands : {D : Type 0} (shelf : List OnShelf) (streams : List (List ℕ)) (control : Controlled D) (seats : List Seat)
+pub new_stands : {D : Type 0} (shelf : List OnShelf) (streams : List (List ℕ)) (control : PlayedControl D) (seats : List Seat)
     → stage_at control [] ≡ first_stage → AreNewSeats streams seats → Stands shelf streams control 0 seats
 new_stands {D} shelf streams control seats fresh new = record {
   under_way = record {
@@ -132,9 +134,9 @@ logs_in_order : (k : ℕ) (history : List ControlEntry) (seats : List Seat) → 
 logs_in_order k history [] ordered over = tt
 logs_in_order k history (seat ∷ seats) ordered over = (ordered.0.over over.0, logs_in_order (k + 1) history seats ordered.1 over.1)
 
-trace_is : {D : Type 0} (shelf : List OnShelf) (sessions : List (List Asked)) (control : Controlled D) (seats : List Seat)
+trace_is : {D : Type 0} (shelf : List OnShelf) (sessions : List (List Asked)) (control : PlayedControl D) (seats : List Seat)
     → AreOver seats → Stands shelf (map stream_of sessions) control 0 seats
-    → schedule.schedule shelf sessions ≡ Ok (trace_with control.history (logs_at 1 seats))
+    → schedule.schedule shelf sessions ≡ Ok (trace_with control.history (traced control.zones) (logs_at 1 seats))
 unfolding schedule.schedule
 trace_is {D} shelf sessions control seats over stands =
     let streams = map stream_of sessions in
@@ -142,11 +144,11 @@ trace_is {D} shelf sessions control seats over stands =
     let ends : Ok stage ≡ whole shelf streams =
     sym (ap (after_turns shelf stage) (no_turns_left seats over)) ∙ stands.under_way.leads in
     sym (ap (trace_of streams) ends)
-    ∙ ap (λ (ls : List SessionTrace). Ok (trace_with control.history ls)) (logs_are 1 stage streams seats stands.attend stands.under_way.put over)
+    ∙ ap (λ (ls : List SessionTrace). Ok (trace_with control.history (traced control.zones) ls)) (logs_are 1 stage streams seats stands.attend stands.under_way.put over)
 
-pub run_gives : {D : Type 0} (shelf : List OnShelf) (sessions : List (List Asked)) (control : Controlled D) (seats : List Seat)
+pub run_gives : {D : Type 0} (shelf : List OnShelf) (sessions : List (List Asked)) (control : PlayedControl D) (seats : List Seat)
     → AreOver seats → Stands shelf (map stream_of sessions) control 0 seats
-    → Gives (schedule.schedule shelf sessions) control.history (Ok (logs_at 1 seats))
+    → Gives (schedule.schedule shelf sessions) control (Ok (logs_at 1 seats))
 run_gives {D} shelf sessions control seats over stands =
     (trace_is shelf sessions control seats over stands, logs_in_order 1 control.history seats stands.ordered over)
 
@@ -218,10 +220,12 @@ fewer_rounds before after is some =
 
 -- ---- a whole run
 
-pub fresh_stage : {D : Type 0} (control : Controlled D) → control.machine ≡ empty_machine → control.history ≡ [] → stage_at control [] ≡ first_stage
-fresh_stage {D} control machine history =
-    ap (λ (m : Machine). record { machine = m; history = control.history; replies = [] }) machine
-    ∙ ap (λ (h : List ControlEntry). record { machine = empty_machine; history = h; replies = [] }) history
+pub fresh_stage : {D : Type 0} (control : PlayedControl D) → control.machine ≡ empty_machine → control.history ≡ [] → control.zones ≡ fresh_zones
+    → stage_at control [] ≡ first_stage
+fresh_stage {D} control machine history zones =
+    ap (λ (m : Machine). record { machine = m; history = control.history; banks = traced control.zones; replies = [] }) machine
+    ∙ ap (λ (h : List ControlEntry). record { machine = empty_machine; history = h; banks = traced control.zones; replies = [] }) history
+    ∙ ap (λ (z : Lent). record { machine = empty_machine; history = []; banks = traced z; replies = [] }) zones
 
 -- what a slice wrote back to the `Vec` that it is of
 pub written_back : (n : ℕ) (new old : List Seat) → length new ≡ length old → n ≡ length old → take n (new ++ drop (length new) old) ≡ new

@@ -5,7 +5,6 @@ use Rattle.std.proofs.lemmas.List.{set-get_or}
 use Rattle.chv_defs_base.specs.declared.book.Full.{Full}
 use Rattle.chv_defs_api.specs.declared.shelf.OnShelf.{OnShelf}
 use Rattle.chv_defs.specs.Schedule.{Turn, Visit, Stage, then_from, after_turn, after_turns, all_turns, numbered}
-use Rattle.chv_control.specs.Control.{Controlled}
 use Rattle.chv_play.specs.declared.seat.Seat.{Seat}
 use Rattle.chv_play.specs.Ahead.{Ahead}
 use Rattle.chv_play.specs.Playing.{visit_ahead, round_left, behind_round, turns_left, EachFrom, IsPut, Attends}
@@ -14,10 +13,11 @@ use Rattle.chv_play.specs.Turns.{with_reply_of}
 use Rattle.chv_play.specs.Round.{TakesTurn, FindsFull, IsServed, Stands, GoesOn, stage_at, whole}
 use Rattle.chv_play.proofs.EachLemmas.{each_set, for_each_set}
 use Rattle.chv_play.proofs.SeatLemmas.{begins, round_ends, turn_found, turn_taken, turn_skipped, behind_step, behind_skip, behind_over}
+use Rattle.chv_play.specs.Banks.{PlayedControl}
 
 -- ---- streams
 
-attends_on : {D : Type 0} (shelf : List OnShelf) (caller : ℕ) (old new : Controlled D) (seat after : Seat) → TakesTurn shelf caller old new seat after
+attends_on : {D : Type 0} (shelf : List OnShelf) (caller : ℕ) (old new : PlayedControl D) (seat after : Seat) → TakesTurn shelf caller old new seat after
     → (stream : List ℕ) → Attends stream seat → Attends stream after
 attends_on {D} shelf caller old new seat after takes stream attends = record {
   split = attends.split ∙ ap (λ (l : List ℕ). seat.session.asked ++ l) takes.gives
@@ -37,7 +37,7 @@ same_set : (i : ℕ) (seats : List Seat) (seat after : Seat) → get_or seats i 
 same_set i seats seat after is same =
     ap (λ (s : Seat). set seats i s) (same ∙ sym is) ∙ set-get_or seats i seat
 
-pub stands_on : {D : Type 0} (shelf : List OnShelf) (streams : List (List ℕ)) (old new : Controlled D) (i : ℕ) (seats : List Seat) (seat after : Seat)
+pub stands_on : {D : Type 0} (shelf : List OnShelf) (streams : List (List ℕ)) (old new : PlayedControl D) (i : ℕ) (seats : List Seat) (seat after : Seat)
     → i < length seats → get_or seats i seat ≡ seat → IsServed shelf (i + 1) old new seat after None
     → Stands shelf streams old i seats → Stands shelf streams new (suc i) (set seats i after)
 stands_on {D} shelf streams old new i seats seat after within is (inl takes) stands =
@@ -64,15 +64,15 @@ stands_on {D} shelf streams old new i seats seat after within is (inr rests) sta
       under_way = record {
         replies = stands.under_way.replies;
         put = stands.under_way.put;
-        leads = ap (λ (c : Controlled D). after_turns shelf (stage_at c stands.under_way.replies) (turns_left (suc i) seats)) rests.1
+        leads = ap (λ (c : PlayedControl D). after_turns shelf (stage_at c stands.under_way.replies) (turns_left (suc i) seats)) rests.1
             ∙ ap (after_turns shelf (stage_at old stands.under_way.replies)) (sym (turn_skipped i seats seat within is rests.0))
             ∙ stands.under_way.leads;
       };
       attend = stands.attend;
-      ordered = subst (λ (c : Controlled D). EachFrom (IsOrderedIn c.history) 1 seats) (sym rests.1) stands.ordered;
+      ordered = subst (λ (c : PlayedControl D). EachFrom (IsOrderedIn c.history) 1 seats) (sym rests.1) stands.ordered;
     })
 
-pub stands_full : {D : Type 0} (shelf : List OnShelf) (streams : List (List ℕ)) (old : Controlled D) (i : ℕ) (seats : List Seat) (seat : Seat) (full : Full)
+pub stands_full : {D : Type 0} (shelf : List OnShelf) (streams : List (List ℕ)) (old : PlayedControl D) (i : ℕ) (seats : List Seat) (seat : Seat) (full : Full)
     → i < length seats → get_or seats i seat ≡ seat → FindsFull shelf (i + 1) old seat full
     → Stands shelf streams old i seats → whole shelf streams ≡ Err full
 stands_full {D} shelf streams old i seats seat full within is finds stands =
@@ -86,7 +86,7 @@ stands_full {D} shelf streams old i seats seat full within is finds stands =
 
 -- ---- a round begins and ends
 
-pub stands_round : {D : Type 0} (shelf : List OnShelf) (streams : List (List ℕ)) (control : Controlled D) (i : ℕ) (seats : List Seat)
+pub stands_round : {D : Type 0} (shelf : List OnShelf) (streams : List (List ℕ)) (control : PlayedControl D) (i : ℕ) (seats : List Seat)
     → i ≡ length seats → Stands shelf streams control i seats → Stands shelf streams control 0 seats
 stands_round {D} shelf streams control i seats over stands = record {
   under_way = record {
@@ -102,19 +102,19 @@ stands_round {D} shelf streams control i seats over stands = record {
 -- ---- as the loop has it
 
 -- an answer that is no book that was full
-pub is_none_served : {D : Type 0} (shelf : List OnShelf) (caller : ℕ) (old new : Controlled D) (seat after : Seat) (full : Option Full)
+pub is_none_served : {D : Type 0} (shelf : List OnShelf) (caller : ℕ) (old new : PlayedControl D) (seat after : Seat) (full : Option Full)
     → is_some full ≡ false → IsServed shelf caller old new seat after full → IsServed shelf caller old new seat after None
 is_none_served {D} shelf caller old new seat after None none served = served
 is_none_served {D} shelf caller old new seat after (Some full) none served = absurd (cc none)
 
-pub next_stands : {D : Type 0} (shelf : List OnShelf) (streams : List (List ℕ)) (old new : Controlled D) (i : ℕ) (seats : List Seat) (seat after : Seat)
+pub next_stands : {D : Type 0} (shelf : List OnShelf) (streams : List (List ℕ)) (old new : PlayedControl D) (i : ℕ) (seats : List Seat) (seat after : Seat)
     → i < length seats → get_or seats i seat ≡ seat → IsServed shelf (i + 1) old new seat after None
     → Stands shelf streams old i seats → Stands shelf streams new (i + 1) (set seats i after)
 next_stands {D} shelf streams old new i seats seat after within is served stands =
     let number : suc i ≡ i + 1 = omega arith in
     subst (λ n. Stands shelf streams new n (set seats i after)) number (stands_on shelf streams old new i seats seat after within is served stands)
 
-pub next_visits : {D : Type 0} (shelf : List OnShelf) (caller : ℕ) (old new : Controlled D) (i : ℕ) (seats : List Seat) (seat after : Seat)
+pub next_visits : {D : Type 0} (shelf : List OnShelf) (caller : ℕ) (old new : PlayedControl D) (i : ℕ) (seats : List Seat) (seat after : Seat)
     → i < length seats → get_or seats i seat ≡ seat → IsServed shelf caller old new seat after None
     → behind_round (i + 1) (set seats i after) ≡ behind_round i seats
 next_visits {D} shelf caller old new i seats seat after within is (inl takes) =
@@ -125,7 +125,7 @@ next_visits {D} shelf caller old new i seats seat after within is (inr rests) =
     ap (λ n. behind_round n (set seats i after)) number ∙ ap (behind_round (suc i)) (same_set i seats seat after is rests.2)
     ∙ sym (behind_skip i seats seat within is rests.0)
 
-pub full_goes_on : {D : Type 0} (shelf : List OnShelf) (streams : List (List ℕ)) (old new : Controlled D) (i : ℕ) (seats seats_after : List Seat) (seat after : Seat)
+pub full_goes_on : {D : Type 0} (shelf : List OnShelf) (streams : List (List ℕ)) (old new : PlayedControl D) (i : ℕ) (seats seats_after : List Seat) (seat after : Seat)
     (full : Option Full) → i < length seats → get_or seats i seat ≡ seat → is_some full ≡ true → IsServed shelf (i + 1) old new seat after full
     → Stands shelf streams old i seats → GoesOn shelf streams new 0 seats_after full
 full_goes_on {D} shelf streams old new i seats seats_after seat after None within is some served stands = absurd (cc some)

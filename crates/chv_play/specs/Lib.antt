@@ -6,3 +6,4 @@ pub mod Turns
 pub mod Order
 pub mod Round
 pub mod Played
+pub mod Banks

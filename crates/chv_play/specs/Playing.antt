@@ -2,9 +2,7 @@
 use Rattle.std.specs.Prelude.{◌≡◌, ℕ, zero, suc, ◌+◌, List, [], ◌∷◌, ◌++◌, drop, slice_get, Result}
 use Rattle.std.specs.List.{cons_option}
 use Rattle.chv_defs_base.specs.declared.book.Full.{Full}
-use Rattle.chv_defs_control.specs.declared.machine.Machine.{Machine}
 use Rattle.chv_defs_api.specs.declared.shelf.OnShelf.{OnShelf}
-use Rattle.chv_defs_api.specs.declared.control.ControlEntry.{ControlEntry}
 use Rattle.chv_defs.specs.Schedule.{Turn, Visit, Stage, turn_of, numbered, all_turns, after_turns, replies_to, visit_of, end_of}
 use Rattle.chv_play.specs.declared.seat.Seat.{Seat}
 use Rattle.chv_play.specs.Ahead.{Ahead, ahead_of}
@@ -50,11 +48,11 @@ EachFrom P k (seat ∷ seats) = P k seat × EachFrom P (k + 1) seats
 abbrev pub IsPut : List (ℕ × List ℕ) → ℕ → Seat → Type 0
 IsPut replies k seat = replies_to k replies ≡ seat.session.replied
 
--- The turns that are left lead from this control state and history where all turns lead.
-pub record IsUnderWay (shelf : List OnShelf) (whole : Result Stage Full) (machine : Machine) (history : List ControlEntry) (served : ℕ) (seats : List Seat) : Type 0 where
+-- The turns that are left lead from this stage, which has the replies that were put, where all turns lead.
+pub record IsUnderWay (shelf : List OnShelf) (whole : Result Stage Full) (stage : List (ℕ × List ℕ) → Stage) (served : ℕ) (seats : List Seat) : Type 0 where
   pub replies : List (ℕ × List ℕ)
   pub put : EachFrom (IsPut replies) 1 seats
-  pub leads : after_turns shelf (record { machine = machine; history = history; replies = replies }) (turns_left served seats) ≡ whole
+  pub leads : after_turns shelf (stage replies) (turns_left served seats) ≡ whole
 
 -- ---- each session at its stream
 

@@ -2,6 +2,7 @@
 #![tactic(auto)]
 
 mod asked;
+mod banks;
 mod desk;
 mod player;
 mod round;

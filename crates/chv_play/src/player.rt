@@ -1,28 +1,36 @@
 // Plays the sessions of a scenario.
-ghost use Rattle.std.specs.Prelude.{◌≡◌, ◌≤◌, [], length, map, None, Some, IfOk};
+ghost use Rattle.std.specs.Prelude.{◌≡◌, ◌≤◌, [], length, map, None, Some, IfOk, MatchOption};
 ghost use Rattle.chv_session.specs.Talk.{end_of};
 ghost use Rattle.chv_defs_control.specs.Machine.{empty_machine};
 ghost use Rattle.chv_defs.specs.Schedule.{schedule, stream_of};
 ghost use Rattle.chv_control.specs.Shelf.{shelf_of, sectors_of};
-ghost use Rattle.chv_play.specs.Played.{AreNewSeats, logs_at, trace_with, Gives, Comes};
+ghost use Rattle.chv_guest.specs.LentBanks.{fresh_zones};
+ghost use Rattle.chv_play.specs.Banks.{traced};
+ghost use Rattle.chv_play.specs.Played.{AreLegalBanks, AreNewSeats, logs_at, trace_with, Gives, Comes};
 
+use crate::banks::bank_traces;
 use crate::desk::PlayDesk;
 use crate::round::rounds;
 use crate::seat::Seat;
 use chv_control::{Control, Start};
-use chv_defs::{Asked, ControlEntry, Full, Row, SessionLog, SessionTrace, StopCause, Trace};
+use chv_defs::{
+    Asked, BankTrace, ControlEntry, Full, Name, Row, SessionLog, SessionTrace, StopCause, Trace,
+};
+use chv_guest::LentBanks;
 use chv_io::Disk;
+use chv_store::AnyDisk;
 use std::alloc::{AllocError, Global};
 
-/// What playing sessions came to: the trace, or why there is none; and what it was started with.
+/// What playing sessions came to: the trace, or why there is none; and the disks that stand by. (The histories of the banks are
+/// moved into the trace.)
 #[derive(Drop)]
 pub struct Played<D> {
     /// Everything that happened.
     pub trace: Option<Trace>,
     /// Why there is no trace.
     pub cause: Option<StopCause>,
-    /// The disks that stand by, and the number of sessions.
-    pub start: Start<D>,
+    /// The disks that stand by.
+    pub disks: Vec<(Name, AnyDisk<D>)>,
 }
 
 /// A seat for each session, by its requests.
@@ -66,11 +74,11 @@ fn run<D: Disk>(
 ) -> Result<Result<Row<SessionTrace>, Full>, AllocError>
     requires machine { desk.old.control.machine ≡ empty_machine }
     requires history { desk.old.control.history ≡ [] }
+    requires zones { desk.old.control.zones ≡ fresh_zones }
     requires few { length sessions.now ≤ 16 }
     ensures gives { IfOk result (λ logs. Gives
-        (schedule (shelf_of (sectors_of D.sector_count) desk.old.control.disks) sessions.now) desk.new.control.history logs) }
+        (schedule (shelf_of (sectors_of D.sector_count) desk.old.control.disks) sessions.now) desk.new.control logs) }
     ensures disks { desk.new.control.disks ≡ desk.old.control.disks }
-    ensures sessions { desk.new.control.sessions ≡ desk.old.control.sessions }
 {
     let mut seats = seats_of(alloc, sessions)?;
     match rounds(desk, seats.as_mut_slice())? {
@@ -79,66 +87,106 @@ fn run<D: Disk>(
     }
 }
 
-/// The trace with this control history and these logs.
-fn trace_with(alloc: Global, control: Row<ControlEntry>, sessions: Row<SessionTrace>) -> Trace
-    ensures { result ≡ trace_with control sessions }
+/// The trace with this control history, these banks and these logs.
+fn trace_with(
+    alloc: Global,
+    control: Row<ControlEntry>,
+    banks: Row<BankTrace>,
+    sessions: Row<SessionTrace>,
+) -> Trace
+    ensures { result ≡ record { disks = []; vcpus = []; control = control; banks = banks; sessions = sessions } }
 {
     Trace {
         disks: Row::empty(alloc),
         vcpus: Row::empty(alloc),
         control,
-        banks: Row::empty(alloc),
+        banks,
         sessions,
     }
 }
 
-/// Why there is no trace, with what it was started with.
-fn stopped<D>(cause: StopCause, start: Start<D>) -> Played<D>
-    ensures { result ≡ record { trace = None; cause = Some cause; start = start } }
+/// Why there is no trace, with the disks that stand by.
+fn stopped<D>(cause: StopCause, disks: Vec<(Name, AnyDisk<D>)>) -> Played<D>
+    ensures { result ≡ record { trace = None; cause = Some cause; disks = disks } }
 {
     Played {
         trace: None,
         cause: Some(cause),
-        start,
+        disks,
+    }
+}
+
+/// The disks that stand by at a control value.
+fn disks_of<D: Disk>(control: Control<D, LentBanks>) -> Vec<(Name, AnyDisk<D>)>
+    ensures { result.items ≡ control.disks }
+{
+    let (_history, start) = control.into_parts();
+    start.disks
+}
+
+/// The trace of a control value whose sessions left these logs.
+fn trace_of<D: Disk>(
+    alloc: Global,
+    control: Control<D, LentBanks>,
+    logs: Row<SessionTrace>,
+) -> Played<D>
+    ensures traced { MatchOption result.trace (result.cause ≡ Some StopCause.Memory) (λ trace. (result.cause ≡ None)
+        × (trace ≡ trace_with control.history (traced control.zones) logs) × AreLegalBanks trace.banks) }
+    ensures disks { result.disks.items ≡ control.disks }
+{
+    let (history, start) = control.into_parts();
+    match bank_traces(alloc, start.zones) {
+        Ok(banks) => Played {
+            trace: Some(trace_with(alloc, history, banks, logs)),
+            cause: None,
+            disks: start.disks,
+        },
+        Err(_) => stopped(StopCause::Memory, start.disks),
     }
 }
 
 /// Plays sessions on a control value to which nothing happened yet.
-fn play_on<D: Disk>(alloc: Global, control: Control<D>, sessions: &[Row<Asked>]) -> Played<D>
+fn play_on<D: Disk>(
+    alloc: Global,
+    control: Control<D, LentBanks>,
+    sessions: &[Row<Asked>],
+) -> Played<D>
     requires machine { control.machine ≡ empty_machine }
     requires history { control.history ≡ [] }
+    requires zones { control.zones ≡ fresh_zones }
     requires few { length sessions.now ≤ 16 }
     ensures comes { Comes (shelf_of (sectors_of D.sector_count) control.disks)
         (schedule (shelf_of (sectors_of D.sector_count) control.disks) sessions.now) result.trace result.cause }
-    ensures disks { result.start.disks.items ≡ control.disks }
-    ensures sessions { result.start.sessions ≡ control.sessions }
+    ensures disks { result.disks.items ≡ control.disks }
 {
     let mut desk = PlayDesk::new(control);
     let outcome = run(alloc, &mut desk, sessions);
-    let (history, start) = desk.into_control().into_parts();
+    let control = desk.into_control();
+    control.history();
+    control.zones().recall();
     match outcome {
-        Ok(Ok(logs)) => Played {
-            trace: Some(trace_with(alloc, history, logs)),
-            cause: None,
-            start,
-        },
-        Ok(Err(full)) => stopped(StopCause::Full(full), start),
-        Err(AllocError) => stopped(StopCause::Memory, start),
+        Ok(Ok(logs)) => trace_of(alloc, control, logs),
+        Ok(Err(full)) => stopped(StopCause::Full(full), disks_of(control)),
+        Err(AllocError) => stopped(StopCause::Memory, disks_of(control)),
     }
 }
 
-/// Plays the sessions of a scenario by the serial schedule: the trace, whose control history is legal, or why there is none:
-/// the book that is full first, or want of memory. The disks come back, and the number of sessions.
-pub fn play<D: Disk>(alloc: Global, start: Start<D>, sessions: &[Row<Asked>]) -> Played<D>
+/// Plays the sessions of a scenario by the serial schedule: the trace, which is legal, or why there is none: the book that is
+/// full first, or want of memory. The disks come back.
+pub fn play<D: Disk>(
+    alloc: Global,
+    start: Start<D, LentBanks>,
+    sessions: &[Row<Asked>],
+) -> Played<D>
     requires number { start.sessions ≡ length sessions.now }
     requires few { length sessions.now ≤ 16 }
+    requires fresh { start.zones ≡ fresh_zones }
     ensures comes { Comes (shelf_of (sectors_of D.sector_count) start.disks.items)
         (schedule (shelf_of (sectors_of D.sector_count) start.disks.items) sessions.now) result.trace result.cause }
-    ensures disks { result.start.disks.items ≡ start.disks.items }
-    ensures sessions { result.start.sessions ≡ start.sessions }
+    ensures disks { result.disks.items ≡ start.disks.items }
 {
     match Control::new(alloc, start) {
         Ok(control) => play_on(alloc, control, sessions),
-        Err(start) => stopped(StopCause::Memory, start),
+        Err(start) => stopped(StopCause::Memory, start.disks),
     }
 }

@@ -49,7 +49,7 @@ none_is_part (Some before) (Some after) text same =
 trace_plain : (streams : List (List ℕ)) (r : Result Stage Full) (t : Trace) → trace_of streams r ≡ Ok t → IsPlain t
 trace_plain streams (Ok s) t e =
     let same : trace_at streams s ≡ t = cc in
-    subst (λ (x : Trace). IsPlain x) same (record { disks = refl; vcpus = refl; banks = refl })
+    subst (λ (x : Trace). IsPlain x) same (record { disks = refl; vcpus = refl })
 trace_plain streams (Err full) t e = absurd (cc)
 
 pub scheduled_plain : (shelf : List OnShelf) (sessions : Sessions) (t : Trace) → schedule shelf sessions ≡ Ok t → IsPlain t

@@ -9,7 +9,7 @@ use Rattle.chv_defs.specs.ProgramText.{full_line, read_fault_line, scene_fault_l
 use Rattle.chv_defs_scene.specs.ScenarioText.{Fault, Sessions, read_scenario}
 use Rattle.chv_defs.specs.Schedule.{schedule}
 use Rattle.chv_defs.specs.TraceText.{trace_text}
-use Rattle.chv_play.specs.Played.{IsLegalRun}
+use Rattle.chv_defs.specs.LegalTrace.{IsLegalTrace}
 use Rattle.chv_top.specs.declared.status.Status.{Status}
 use Rattle.chv_top.specs.declared.status.Status.TheVariants as status
 
@@ -85,8 +85,9 @@ TakesAtMost left left_after most = (taken : List ℕ) × Loses left left_after t
 -- ---- what the statuses say
 
 -- A scenario was played: the input, read to its end, is a scenario of these sessions; the trace is the one that the
--- schedule gives, where these disks stand by, and what was written is its text. It has one log for each of the sessions; its
--- control history is legal, and is made of the calls of these sessions alone, those of each in order.
+-- schedule gives, where these disks stand by, and what was written is its text. It has one log for each of the sessions, and is
+-- legal: so are its control history, which is made of the calls of these sessions alone, those of each in order, and the history
+-- of each bank, in which the owner's calls are those that the control history asks for.
 pub record IsPlayed (shelf : List OnShelf) (left left_after written written_after : Option (List ℕ)) : Type 0 where
   pub text : List ℕ
   pub sessions : Sessions
@@ -95,7 +96,7 @@ pub record IsPlayed (shelf : List OnShelf) (left left_after written written_afte
   pub scenario : read_scenario text ≡ Ok sessions
   pub scheduled : schedule shelf sessions ≡ Ok trace
   pub one_each : length trace.sessions ≡ length sessions
-  pub legal : IsLegalRun shelf trace
+  pub legal : IsLegalTrace shelf trace
   pub output : Gains written written_after (trace_text trace)
 
 -- The input, read to its end, is no scenario: this is its first line that fails, and why. The line that says so was written.

@@ -8,7 +8,7 @@ use Rattle.chv_io.specs.Outside.{Rose, Gains, GainsPart}
 use Rattle.chv_defs.specs.ProgramText.{full_line, read_fault_line, scene_fault_line, too_long_line}
 use Rattle.chv_defs_scene.specs.ScenarioText.{read_scenario}
 use Rattle.chv_defs.specs.TraceText.{trace_text}
-use Rattle.chv_play.specs.Played.{IsLegalRun}
+use Rattle.chv_defs.specs.LegalTrace.{IsLegalTrace}
 use Rattle.chv_top.specs.Outcome.{IsFull, IsInput, IsPartOfOwed, IsPlayed, IsRead, IsRefused, IsTooLong, most_input, of_schedule, text_of}
 use Rattle.chv_top.specs.declared.status.Status.{Status}
 use Rattle.chv_top.specs.declared.status.Status.TheVariants as status
@@ -47,11 +47,10 @@ Tells written written_after writes writes_after (stop.Scene fault) result =
     Writes written written_after writes writes_after (scene_fault_line fault.line fault.reason) (status.Scene fault.line fault.reason) result
     ⊎ ((result ≡ status.Memory) × (written_after ≡ written))
 
--- a trace of sessions alone
+-- a trace of sessions alone: no disk is made, and no vCPU has a script
 pub record IsPlain (trace : Trace) : Type 0 where
   pub disks : trace.disks ≡ []
   pub vcpus : trace.vcpus ≡ []
-  pub banks : trace.banks ≡ []
 
 -- What a status says of a run that writes a trace.
 abbrev pub ReportsTrace : Trace → Option (List ℕ) → Option (List ℕ) → ℕ → ℕ → Status → Type 0
@@ -68,7 +67,7 @@ ReportsFull full written written_after writes writes_after result =
 -- What a status says of a run that writes what the schedule of its scenario comes to.
 abbrev pub Reports : List OnShelf → Result Trace Full → Option (List ℕ) → Option (List ℕ) → ℕ → ℕ → Status → Type 0
 Reports shelf given written written_after writes writes_after status.Done =
-    (trace : Trace) × (given ≡ Ok trace) × IsLegalRun shelf trace × Gains written written_after (trace_text trace)
+    (trace : Trace) × (given ≡ Ok trace) × IsLegalTrace shelf trace × Gains written written_after (trace_text trace)
 Reports shelf given written written_after writes writes_after (status.Full book entries bytes) =
     (given ≡ Err (record { book = book; entries = entries; bytes = bytes }))
     × Gains written written_after (full_line (record { book = book; entries = entries; bytes = bytes }))

@@ -4,7 +4,7 @@ ghost use Rattle.chv_defs_api.specs.declared.shelf.OnShelf.{OnShelf};
 ghost use Rattle.chv_defs_base.specs.declared.book.Full as defs_full;
 ghost use Rattle.chv_defs.specs.declared.trace.Trace as defs_trace;
 ghost use Rattle.chv_defs.specs.Schedule.{schedule};
-ghost use Rattle.chv_control.specs.Shelf.{shelf_of};
+ghost use Rattle.chv_control.specs.Shelf.{sectors_of, shelf_of};
 ghost use Rattle.chv_play.specs.Played.{Comes};
 ghost use Rattle.chv_top.specs.Outcome.{TakesAtMost};
 ghost use Rattle.chv_top.specs.Says.{IsPlain, IsScene, Reports, ReportsFull, ReportsTrace, Says, StopsBy, Tells};
@@ -14,10 +14,12 @@ use crate::input::{InputError, read_input};
 use crate::lines::{full, read_fault, scene_fault, too_long, write};
 use crate::status::{Ended, Status};
 use chv_control::Start;
-use chv_defs::{Full, Name, Scene, StopCause, Trace};
+use chv_defs::{Asked, Full, Name, Row, Scene, StopCause, Trace};
+use chv_guest::LentBanks;
 use chv_io::{Disk, Sink, Source};
-use chv_play::play;
+use chv_play::{Played, play};
 use chv_scene::SceneFault;
+use chv_store::AnyDisk;
 use chv_trace::{PrintError, print};
 use std::alloc::{AllocError, Global};
 
@@ -148,7 +150,6 @@ fn play_scene<K: Sink, D: Disk + Drop>(
     ensures disks { result.disks.items ≡ disks.items }
     ensures later { K.write_faults out.old ≤ K.write_faults out.new }
 {
-    let sessions = scene.sessions.as_slice();
     let (disks, back) = match given(alloc, disks) {
         Ok(both) => both,
         Err(disks) => {
@@ -158,18 +159,37 @@ fn play_scene<K: Sink, D: Disk + Drop>(
             };
         }
     };
-    let played = play(
-        alloc,
-        Start {
-            disks,
-            sessions: sessions.len() as u32,
-        },
-        sessions,
-    );
+    let played = play_sessions(alloc, disks, scene.sessions.as_slice());
     Ended {
         status: report(alloc, out, played.trace, played.cause),
-        disks: handed_back(played.start.disks, back),
+        disks: handed_back(played.disks, back),
     }
+}
+
+// Plays sessions over banks to which nothing happened yet.
+fn play_sessions<D: Disk + Drop>(
+    alloc: Global,
+    disks: Vec<(Name, AnyDisk<D>)>,
+    sessions: &[Row<Asked>],
+) -> Played<D>
+    requires few { length sessions.now ≤ 16 }
+    ensures comes { Comes (shelf_of (sectors_of D.sector_count) disks.items)
+        (schedule (shelf_of (sectors_of D.sector_count) disks.items) sessions.now) result.trace result.cause }
+    ensures disks { result.disks.items ≡ disks.items }
+{
+    let Ok(zones) = LentBanks::new(alloc) else {
+        return Played {
+            trace: None,
+            cause: Some(StopCause::Memory),
+            disks,
+        };
+    };
+    let start = Start {
+        disks,
+        zones,
+        sessions: sessions.len() as u32,
+    };
+    play(alloc, start, sessions)
 }
 
 // Writes a trace, or the line of the book that is full.

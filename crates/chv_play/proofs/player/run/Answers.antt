@@ -26,7 +26,7 @@ returns-in-Some-clause-gives g c =
     let starts : Stands shelf (map stream_of c.args.sessions.now) c.args.desk.now.control 0 c.as_mut_slice.result.now =
     subst (λ (seats : List Seat). Stands shelf (map stream_of c.args.sessions.now) c.args.desk.now.control 0 seats) (sym c.as_mut_slice.ensures.value)
     (new_stands shelf (map stream_of c.args.sessions.now) c.args.desk.now.control c.in_ok-seats.seats.items
-    (fresh_stage c.args.desk.now.control c.requires.machine c.requires.history) c.in_ok-seats.ensures) in
+    (fresh_stage c.args.desk.now.control c.requires.machine c.requires.history c.requires.zones) c.in_ok-seats.ensures) in
     run_full shelf c.args.sessions.now c.in-Some.full
     (subst (λ full. GoesOn shelf (map stream_of c.args.sessions.now) c.rounds.new.desk.control 0 c.rounds.new.seats full) c.in-Some.is
     (c.in_ok-full.ensures.goes_on (map stream_of c.args.sessions.now) starts))
@@ -39,8 +39,8 @@ returns-in_ok-logs_of-in-None-clause-gives g c =
     let starts : Stands shelf (map stream_of c.args.sessions.now) c.args.desk.now.control 0 c.as_mut_slice.result.now =
     subst (λ (seats : List Seat). Stands shelf (map stream_of c.args.sessions.now) c.args.desk.now.control 0 seats) (sym c.as_mut_slice.ensures.value)
     (new_stands shelf (map stream_of c.args.sessions.now) c.args.desk.now.control c.in_ok-seats.seats.items
-    (fresh_stage c.args.desk.now.control c.requires.machine c.requires.history) c.in_ok-seats.ensures) in
-    subst (λ logs. Gives (schedule shelf c.args.sessions.now) c.rounds.new.desk.control.history (Ok logs))
+    (fresh_stage c.args.desk.now.control c.requires.machine c.requires.history c.requires.zones) c.in_ok-seats.ensures) in
+    subst (λ logs. Gives (schedule shelf c.args.sessions.now) c.rounds.new.desk.control (Ok logs))
     (sym (c.in_ok-logs_of-in-None.ensures ∙ ap (logs_at 1) back))
     (run_gives shelf c.args.sessions.now c.rounds.new.desk.control c.rounds.new.seats (c.in_ok-full.ensures.over c.in-None.is)
     (subst (λ full. GoesOn shelf (map stream_of c.args.sessions.now) c.rounds.new.desk.control 0 c.rounds.new.seats full) c.in-None.is

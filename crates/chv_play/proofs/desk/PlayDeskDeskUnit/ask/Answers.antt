@@ -6,7 +6,7 @@ pub make-requires : goal.make-requires
 make-requires g c =
     let desk = c.args.self.now in
     let made = answers_by desk.caller desk.control.history in
-    let both = may_call desk.control.machine desk.caller made c.args.call.now (c.history-history.ensures.settled desk.caller) c.requires in
+    let both = may_call desk.control.machine desk.caller made c.args.call.now (c.recall.ensures.settled desk.caller) c.requires in
     record { may = both.0; session = both.1 }
 
 pub returns-clause-asked : goal.returns-clause-asked
