@@ -75,6 +75,21 @@ pub record HasRead (before after : Intake) (buffer : List ℕ) (n room : ℕ) : 
   pub fills : Fills {E = Failed} before.left before.most after.most room (Ok n)
   pub kept : after.asked ≡ before.asked ++ take n buffer
 
+pub read_is : {before after : Intake} {buffer : List ℕ} {n room : ℕ} → n ≤ length buffer → IsShort before.rest
+    → room ≡ asks_for (length before.asked) → n ≤ room → Takes {E = Failed} before.left after.left buffer (Ok n)
+    → Gives {E = Failed} before.gave after.gave buffer (Ok n) → Fills {E = Failed} before.left before.most after.most room (Ok n)
+    → after.asked ≡ before.asked ++ take n buffer → HasRead before after buffer n room
+read_is held short asks within moves gives fills kept = record {
+  short = short;
+  asks = asks;
+  within = within;
+  held = held;
+  moves = moves;
+  gives = gives;
+  fills = fills;
+  kept = kept;
+}
+
 pub takes_read : {before after : Intake} {buffer : List ℕ} {n room : ℕ} → HasRead before after buffer n room → TakesPieces before after
 takes_read {before} {after} {buffer} {n = zero} {room} read = record {
   pieces = [];
