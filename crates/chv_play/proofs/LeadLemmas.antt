@@ -39,6 +39,7 @@ use Rattle.chv_play.proofs.NextLemmas.{turned_or_halted}
 use Rattle.chv_play.proofs.OrderLemmas.{turn_ordered}
 use Rattle.chv_play.specs.Banks.{PlayedControl, entered_with_banks}
 use Rattle.chv_play.proofs.BankLemmas.{traced_behind}
+use Rattle.chv_play.proofs.TurnLemmas.{intake_at}
 
 -- ---- what the schedule says
 
@@ -145,8 +146,8 @@ puts_no_other (Leaves how) session other bytes replies differs = refl
 pub record SaysAt {D : Type 0} (most : ℕ) (count : AnyDisk D → ℕ) (said : Next) (desk desk_after : PlayDesk D) (seat after : Seat) : Type 0 where
   pub many : 4096 ≤ most
   pub goes : is_over seat.session.state ≡ false
-  pub takes : TakesPieces seat.session.asked after.session.asked seat.session.rest (Some seat.link.left) (Some after.link.left) None None (Some most)
-  pub drains : seat.session.state ≡ state.Open → Drains said seat.session.asked after.session.asked seat.session.rest 0 0 (Some after.link.left)
+  pub takes : TakesPieces (intake_at most seat.session seat.link.left) (intake_at most after.session after.link.left)
+  pub drains : seat.session.state ≡ state.Open → Drains said (intake_at most seat.session seat.link.left) (intake_at most after.session after.link.left)
   pub rests : seat.session.state ≢ state.Open → after.link.left ≡ seat.link.left
   pub comes : ComesTo said
       (moment seat.session (answers_by desk.caller desk.control.history) (call_of desk.refused) None 0 0)

@@ -22,19 +22,19 @@ use Rattle.chv_session.specs.Moment.{moment, faults}
 use Rattle.chv_session.specs.Taking.{TakesPieces}
 use Rattle.chv_session.specs.Wire.{Drains, HasReadFault}
 use Rattle.chv_session.specs.Response.{Leaves}
-use Rattle.chv_session.specs.Step.{Answers, ComesToEnd, Stops, EndsBy, Refuses, ComesFrom, ComesTo, is_over, state_behind}
+use Rattle.chv_session.specs.Step.{Answers, Hand, ComesToEnd, Stops, EndsBy, Refuses, ComesFrom, ComesTo, is_over, state_behind}
 use Rattle.chv_play.specs.Ahead.{ahead_of, ahead_from, with_first}
 use Rattle.chv_play.specs.Order.{played}
 use Rattle.chv_play.specs.Turns.{Turned, Halts, TurnedOrHalted, call_in}
-use Rattle.chv_play.proofs.TurnLemmas.{Fed, hand_of, gives_is, answers_request, answers_bad, ends_short, nothing_is_short, drained, at_limit, end_nothing, end_part, end_limit}
+use Rattle.chv_play.proofs.TurnLemmas.{Fed, intake_at, hand_of, gives_is, answers_request, answers_bad, ends_short, nothing_is_short, drained, at_limit, end_nothing, end_part, end_limit}
 
 -- What a call of `next` says of a session at its stream, of which a read gives so much, and nothing fails: it had not ended
 -- before, its caller's calls grew so, none of them answered Holding, and this one was refused.
 pub record Says (most : ℕ) (said : Next) (old new : Talk) (left left_after : List ℕ) (answers answers_after : List Answer) (refused : Option ControlCall) : Type 0 where
   pub many : 4096 ≤ most
   pub goes : is_over old.state ≡ false
-  pub takes : TakesPieces old.asked new.asked old.rest (Some left) (Some left_after) None None (Some most)
-  pub drains : old.state ≡ state.Open → Drains said old.asked new.asked old.rest 0 0 (Some left_after)
+  pub takes : TakesPieces (intake_at most old left) (intake_at most new left_after)
+  pub drains : old.state ≡ state.Open → Drains said (intake_at most old left) (intake_at most new left_after)
   pub rests : old.state ≢ state.Open → left_after ≡ left
   pub comes : ComesTo said (played old answers) (moment new answers_after refused None 0 0)
   pub none_holds : (c : ControlCall) (made : List Answer) → answers_after ≡ answers ++ made → Holds c made → ⊥
@@ -81,13 +81,17 @@ no_read_fault next.Answered fault = fault
 abbrev IsDry : Talk → Talk → List ℕ → List ℕ → Type 0
 IsDry old new left_after more = IsShort (old.rest ++ more) → length new.asked < session_limit → left_after ≡ []
 
-is_dry : (said : Next) (old new : Talk) (left_after more : List ℕ) → new.asked ≡ old.asked ++ more
-    → Drains said old.asked new.asked old.rest 0 0 (Some left_after) → IsDry old new left_after more
-is_dry said old new left_after more grows drains short below = go (drains more grows short below)
+is_dry : (most : ℕ) (said : Next) (old new : Talk) (left left_after more : List ℕ) → new.asked ≡ old.asked ++ more
+    → Drains said (intake_at most old left) (intake_at most new left_after) → IsDry old new left_after more
+is_dry most said old new left left_after more grows drains short below = go (drains more grows short below)
   where
     go : (left_after ≡ []) ⊎ HasReadFault said 0 0 → left_after ≡ []
     go (inl none) = none
     go (inr fault) = absurd (no_read_fault said fault)
+
+-- what a session at its stream had at hand
+abbrev hand_at : Talk → List ℕ → Talk → Hand
+hand_at old more new = record { bytes = old.rest ++ more; rest = new.rest; asked = new.asked; counts = faults 0 0 0 0 }
 
 -- an end that answers nothing is the turn ahead, and makes no call before its Bye
 abbrev IsEndAhead : Talk → Talk → List ℕ → List ℕ → SessionEnd → List Answer → Type 0
@@ -96,7 +100,7 @@ IsEndAhead old new left left_after how calls =
 
 end_ahead : (most : ℕ) (old new : Talk) (left left_after more : List ℕ) (how : SessionEnd) (unsent : List ℕ) (calls : List Answer)
     → Fed most old new left left_after more → IsDry old new left_after more
-    → ComesToEnd how (old.rest ++ more) new.rest new.asked unsent calls (faults 0 0 0 0) → IsEndAhead old new left left_after how calls
+    → ComesToEnd how (hand_at old more new) unsent calls → IsEndAhead old new left left_after how calls
 end_ahead most old new left left_after more end.Ended unsent calls fed dry comes =
     let t = hand_of old new left_after more in
     let short : IsShort t.rest = subst IsShort (sym comes.0) nothing_is_short in (
@@ -121,21 +125,21 @@ end_ahead most old new left left_after more end.Closed unsent calls fed dry come
 end_ahead most old new left left_after more end.Stopped unsent calls fed dry comes = absurd comes
 
 -- an end has its Bye, and no call was refused; or it is Stopped
-abbrev HasBye : SessionEnd → List ℕ → List ℕ → List ℕ → List ℕ → List Answer → Option ControlCall → Type 0
-HasBye how hand rest asked unsent made refused =
-    (refused ≡ None) × ((calls : List Answer) × (bye : Answer) × ComesToEnd how hand rest asked unsent calls (faults 0 0 0 0)
+abbrev HasBye : SessionEnd → Hand → List ℕ → List Answer → Option ControlCall → Type 0
+HasBye how hand unsent made refused =
+    (refused ≡ None) × ((calls : List Answer) × (bye : Answer) × ComesToEnd how hand unsent calls
     × (bye.call ≡ call.Bye) × (made ≡ calls ++ bye ∷ []))
 
-by_end : (how : SessionEnd) (hand rest asked unsent : List ℕ) (made : List Answer) (refused : Option ControlCall)
-    → EndsBy how hand rest asked unsent made refused (faults 0 0 0 0) → Refuses (next.Ended how) None refused
-    → HasBye how hand rest asked unsent made refused ⊎ Stops hand rest asked unsent made refused (faults 0 0 0 0)
-by_end end.Stopped hand rest asked unsent made refused by same = inr by
-by_end end.Ended hand rest asked unsent made refused by same = inl (same, by)
-by_end end.Cut hand rest asked unsent made refused by same = inl (same, by)
-by_end end.Bad hand rest asked unsent made refused by same = inl (same, by)
-by_end end.Closed hand rest asked unsent made refused by same = inl (same, by)
-by_end end.Fault hand rest asked unsent made refused by same = inl (same, by)
-by_end end.Limit hand rest asked unsent made refused by same = inl (same, by)
+by_end : (how : SessionEnd) (hand : Hand) (unsent : List ℕ) (made : List Answer) (refused : Option ControlCall)
+    → EndsBy how hand unsent made refused → Refuses (next.Ended how) None refused
+    → HasBye how hand unsent made refused ⊎ Stops hand unsent made refused
+by_end end.Stopped hand unsent made refused by same = inr by
+by_end end.Ended hand unsent made refused by same = inl (same, by)
+by_end end.Cut hand unsent made refused by same = inl (same, by)
+by_end end.Bad hand unsent made refused by same = inl (same, by)
+by_end end.Closed hand unsent made refused by same = inl (same, by)
+by_end end.Fault hand unsent made refused by same = inl (same, by)
+by_end end.Limit hand unsent made refused by same = inl (same, by)
 
 -- the Bye of an end
 leaves : (old new : Talk) (left left_after more : List ℕ) (how : SessionEnd) (made : List Answer) (bye : Answer)
@@ -160,7 +164,7 @@ IsHalted old left made refused = (made ≡ []) × ((c : ControlCall) × (refused
 halted : (most : ℕ) (old new : Talk) (left left_after more unsent : List ℕ) (made : List Answer) (refused : Option ControlCall)
     → Fed most old new left left_after more → IsDry old new left_after more
     → ((c : ControlCall) → Holds c made → ⊥)
-    → Stops (old.rest ++ more) new.rest new.asked unsent made refused (faults 0 0 0 0) → IsHalted old left made refused
+    → Stops (hand_at old more new) unsent made refused → IsHalted old left made refused
 halted most old new left left_after more unsent made refused fed dry holds (inl (request, begins, (c, is, inl stops), none)) = (
   stops.0,
   (
@@ -214,16 +218,16 @@ from_state most state.Open next.Answered old new left left_after answers answers
     took_turn old new left left_after answers answers_after step.made refused step.refuses step.calls
     (answered most old new left left_after step.more step.reply step.made fed step.replies step.outcome.0)
 from_state most state.Open (next.Ended how) old new left left_after answers answers_after refused stands says step =
-    go (by_end how (old.rest ++ step.more) new.rest new.asked step.outcome.0 step.made refused step.outcome.3 step.refuses)
+    go (by_end how (hand_at old step.more new) step.outcome.0 step.made refused step.outcome.3 step.refuses)
   where
     fed : Fed most old new left left_after step.more
     fed = record { many = says.many; opened = stands; takes = says.takes; grows = step.takes }
 
     dry : IsDry old new left_after step.more
-    dry = is_dry (next.Ended how) old new left_after step.more step.takes (says.drains stands)
+    dry = is_dry most (next.Ended how) old new left left_after step.more step.takes (says.drains stands)
 
-    go : HasBye how (old.rest ++ step.more) new.rest new.asked step.outcome.0 step.made refused
-        ⊎ Stops (old.rest ++ step.more) new.rest new.asked step.outcome.0 step.made refused (faults 0 0 0 0)
+    go : HasBye how (hand_at old step.more new) step.outcome.0 step.made refused
+        ⊎ Stops (hand_at old step.more new) step.outcome.0 step.made refused
         → TurnedOrHalted old new left left_after answers answers_after refused
     go (inl (none, (calls, bye, comes, is_bye, made_is))) =
         let ahead = end_ahead most old new left left_after step.more how step.outcome.0 calls fed dry comes in

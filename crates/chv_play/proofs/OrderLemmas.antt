@@ -10,9 +10,9 @@ use Rattle.chv_session.specs.declared.next.Next.TheVariants as next
 use Rattle.chv_session.specs.declared.state.State.{State}
 use Rattle.chv_session.specs.declared.state.State.TheVariants as state
 use Rattle.chv_session.specs.Laws.{Runs}
-use Rattle.chv_session.specs.Moment.{Moment, Faults}
+use Rattle.chv_session.specs.Moment.{Moment}
 use Rattle.chv_session.specs.Response.{StopsIn}
-use Rattle.chv_session.specs.Step.{Answers, ComesFrom, ComesTo, Stops, is_over, state_behind}
+use Rattle.chv_session.specs.Step.{Answers, Hand, ComesFrom, ComesTo, Stops, is_over, state_behind}
 use Rattle.chv_session.specs.Talk.{Talk, new_talk, end_of}
 use Rattle.chv_session.proofs.LawLemmas.{ends_as_session}
 use Rattle.chv_play.specs.Order.{played, IsOrdered}
@@ -59,13 +59,13 @@ request_goes_on : (request : Request) (made : List Answer) → StopsIn request m
 request_goes_on request made (c, is, inl (none, refused)) = cc refused
 request_goes_on request made (c, is, inr (holds, refused)) = cc refused
 
-step_goes_on : (hand rest asked unsent : List ℕ) (made : List Answer) (counts : Faults) → Stops hand rest asked unsent made None counts → ⊥
-step_goes_on hand rest asked unsent made counts (inl (request, begins, stops, none)) = request_goes_on request made stops
-step_goes_on hand rest asked unsent made counts (inr (how, comes, refused)) = cc refused
+step_goes_on : (hand : Hand) (unsent : List ℕ) (made : List Answer) → Stops hand unsent made None → ⊥
+step_goes_on hand unsent made (inl (request, begins, stops, none)) = request_goes_on request made stops
+step_goes_on hand unsent made (inr (how, comes, refused)) = cc refused
 
 stopped_from : (s : State) (old new : Talk) (answers answers_after : List Answer) → is_over s ≡ false → s ≢ state.Leaving end.Stopped
     → ComesFrom s (next.Ended end.Stopped) (played old answers) (played new answers_after) → ⊥
-stopped_from state.Open old new answers answers_after goes leaves step = step_goes_on _ _ _ _ _ _ step.outcome.3
+stopped_from state.Open old new answers answers_after goes leaves step = step_goes_on _ _ _ step.outcome.3
 stopped_from (state.Leaving how) old new answers answers_after goes leaves (came, is, new_is, inl (bye, same, says, made, still), puts) =
     let stops : end.Stopped ≡ came = cc is in
     leaves (ap state.Leaving (sym (stops ∙ same)))

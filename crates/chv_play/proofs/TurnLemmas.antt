@@ -18,17 +18,21 @@ use Rattle.chv_defs.specs.Schedule.{Standing, next_piece, takes_more, is_not_yet
 use Rattle.chv_session.specs.declared.state.State.{State}
 use Rattle.chv_session.specs.declared.state.State.TheVariants as state
 use Rattle.chv_session.specs.Talk.{Talk}
-use Rattle.chv_session.specs.Taking.{TakesPieces}
+use Rattle.chv_session.specs.Taking.{Intake, intake, TakesPieces}
 use Rattle.chv_session.specs.Step.{state_behind}
 use Rattle.chv_play.specs.Ahead.{ahead_in, ahead_from, ahead_of, with_first, standing_of, unanswered}
 use Rattle.chv_play.proofs.FilledLemmas.{cut_is, stand, filled_is}
 use Rattle.chv_play.proofs.VisitLemmas.{cut_shorter, filled_size, enough}
 
+-- a session at its stream, of which a read gives so much, and which never failed
+abbrev pub intake_at : ℕ → Talk → List ℕ → Intake
+intake_at most talk left = intake talk.asked talk.rest (Some left) None (Some most) 0
+
 -- An open session took these bytes of its stream, of which a read gives so much.
 pub record Fed (most : ℕ) (old new : Talk) (left left_after more : List ℕ) : Type 0 where
   pub many : 4096 ≤ most
   pub opened : old.state ≡ state.Open
-  pub takes : TakesPieces old.asked new.asked old.rest (Some left) (Some left_after) None None (Some most)
+  pub takes : TakesPieces (intake_at most old left) (intake_at most new left_after)
   pub grows : new.asked ≡ old.asked ++ more
 
 -- ---- what it took

@@ -1,11 +1,7 @@
 -- What is done to a desk where only calls are asked there.
-use Rattle.std.proofs.Common.{◌≡◌, List, [], ◌∷◌, ◌++◌, refl, subst}
+use Rattle.std.proofs.Common.{List, [], ◌∷◌, ◌++◌, refl, subst}
 use Rattle.chv_defs_api.specs.declared.control.ControlCall.{ControlCall}
 use Rattle.chv_defs_api.specs.Desks.{AreAsked, IsOnlyAsked}
-
--- nothing was asked
-pub asked_none : {A : Type 0} (asks : A → ControlCall → A → Type 0) (before after : A) → after ≡ before → IsOnlyAsked asks before after
-asked_none asks before after same = ([], same)
 
 -- one call was asked
 pub asked_one : {A : Type 0} (asks : A → ControlCall → A → Type 0) (before after : A) (c : ControlCall) → asks before c after

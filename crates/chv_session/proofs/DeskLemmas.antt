@@ -10,7 +10,7 @@ use Rattle.chv_defs_api.specs.declared.control.ControlReply.{ControlReply}
 use Rattle.chv_defs_api.specs.declared.control.ControlReply.TheVariants as reply
 use Rattle.chv_defs_api.specs.declared.session.SessionEnd.{SessionEnd}
 use Rattle.chv_defs_api.specs.declared.session.SessionEnd.TheVariants as end
-use Rattle.chv_defs_api.specs.Desks.{Answer, is_held, is_holding, can_have, is_session_call}
+use Rattle.chv_defs_api.specs.Desks.{Answer, is_held, is_holding, is_session_call}
 use Rattle.chv_defs_api.specs.JsonBodies.{◌>>=◌}
 use Rattle.chv_defs_api.specs.Routes.{call_of_request, call_named, get_call, put_call, reply_to_call, route_name}
 use Rattle.chv_defs_api.specs.SessionBytes.{Makes, AnsweredBy}
@@ -32,10 +32,6 @@ held_behind (x ∷ y ∷ more) a = held_behind (y ∷ more) a
 holding_is : (r : ControlReply) → is_holding r ≡ true → r ≡ reply.Holding
 holding_is reply.Holding e = refl
 holding_is r e = absurd (cc e)
-
-settled_is : (r : ControlReply) → can_have call.Settle r ≡ true → is_holding r ≡ false
-settled_is reply.Holding e = absurd (cc e)
-settled_is r e = refl
 
 pub held_after : (before after : List Answer) (a : Answer) → after ≡ before ++ a ∷ [] → is_held after ≡ is_holding a.reply
 held_after before after a made = ap is_held made ∙ held_behind before a
@@ -142,39 +138,33 @@ request_asks_no_bye request c is = (subst IsAsked is (named_asked request (route
 -- ---- a request that is served
 
 -- a call that was made, and the reply to it
-pub serves_made : {E : Type 0} (before after : List Answer) (c : ControlCall) (made : Made) (last : Bool) (result : Result Response E)
-    (refused refused_after : Option ControlCall)
+pub serves_made : {E : Type 0} {refused refused_after : Option ControlCall} (before after : List Answer) (c : ControlCall) (made : Made) (last : Bool)
+    (result : Result Response E)
     → HasMadeAlso before after (λ all. Makes c all (record { call = last_call c made.settled; reply = made.reply })) × (refused_after ≡ refused)
     → IfOk result (λ response. IsAnswer response (reply_to_call (last_call c made.settled) made.reply last) last)
     → ServesCall c last result before after refused refused_after
-serves_made before after c made last (Ok response) refused refused_after (makes, goes) (reply_is, then_is) =
+serves_made {E} {refused} {refused_after} before after c made last (Ok response) (makes, goes) (reply_is, then_is) =
     (makes.0, makes.1, inl (_, reply_is, then_is, (record { call = last_call c made.settled; reply = made.reply }, makes.2, refl), goes))
-serves_made before after c made last (Err error) refused refused_after (makes, goes) is =
+serves_made {E} {refused} {refused_after} before after c made last (Err error) (makes, goes) is =
     ((makes.0, makes.1, inr (inr (_, (record { call = last_call c made.settled; reply = made.reply }, makes.2, refl)))), goes)
 
-pub serves_ok : {E : Type 0} (before after : List Answer) (request : Request) (c : ControlCall) (found : Result ControlCall Rule)
+pub serves_ok : {E : Type 0} {found : Result ControlCall Rule} {c : ControlCall} (before after : List Answer) (request : Request)
     (result : Result Response E) (refused refused_after : Option ControlCall)
     → found ≡ call_of_request request → found ≡ Ok c → ServesCall c request.last result before after refused refused_after
     → IfOk result (λ response. HasMadeAlso before after (λ made. Serves request response.reply response.then made refused refused_after))
-serves_ok before after request c found (Ok response) refused refused_after is ok (made, all, inl (bytes, reply_is, then_is, by, goes)) =
+serves_ok {E} {found} {c} before after request (Ok response) refused refused_after is ok (made, all, inl (bytes, reply_is, then_is, by, goes)) =
     (made, all, inl (bytes, reply_is, then_is, subst (λ r. AnsweredBy r request.last made bytes) (sym ok ∙ is) by, goes))
-serves_ok before after request c found (Ok response) refused refused_after is ok (made, all, inr (reply_is, then_is, stops)) =
+serves_ok {E} {found} {c} before after request (Ok response) refused refused_after is ok (made, all, inr (reply_is, then_is, stops)) =
     (made, all, inr (reply_is, then_is, (c, sym is ∙ ok, stops)))
-serves_ok before after request c found (Err error) refused refused_after is ok serves = tt
+serves_ok {E} {found} {c} before after request (Err error) refused refused_after is ok serves = tt
 
-pub serves_err : {E : Type 0} (before after : List Answer) (request : Request) (c : ControlCall) (found : Result ControlCall Rule)
+pub serves_err : {E : Type 0} {found : Result ControlCall Rule} {c : ControlCall} (before after : List Answer) (request : Request)
     (result : Result Response E) (refused refused_after : Option ControlCall)
     → found ≡ call_of_request request → found ≡ Ok c → ServesCall c request.last result before after refused refused_after
     → OnErr result (HasMadeAlso before after (λ made. BreaksIn request made))
-serves_err before after request c found (Ok response) refused refused_after is ok serves = tt
-serves_err before after request c found (Err error) refused refused_after is ok ((made, all, inl none), goes) = (made, all, inl none)
-serves_err before after request c found (Err error) refused refused_after is ok ((made, all, inr (inl holds)), goes) =
+serves_err {E} {found} {c} before after request (Ok response) refused refused_after is ok serves = tt
+serves_err {E} {found} {c} before after request (Err error) refused refused_after is ok ((made, all, inl none), goes) = (made, all, inl none)
+serves_err {E} {found} {c} before after request (Err error) refused refused_after is ok ((made, all, inr (inl holds)), goes) =
     (made, all, inr (inl (c, sym is ∙ ok, holds)))
-serves_err before after request c found (Err error) refused refused_after is ok ((made, all, inr (inr (bytes, by))), goes) =
+serves_err {E} {found} {c} before after request (Err error) refused refused_after is ok ((made, all, inr (inr (bytes, by))), goes) =
     (made, all, inr (inr (bytes, subst (λ r. AnsweredBy r request.last made bytes) (sym ok ∙ is) by)))
-
-pub serves_goes_on : {E : Type 0} (before after : List Answer) (c : ControlCall) (last : Bool) (result : Result Response E)
-    (refused refused_after : Option ControlCall) → ServesCall c last result before after refused refused_after
-    → OnErr result (refused_after ≡ refused)
-serves_goes_on before after c last (Ok response) refused refused_after serves = tt
-serves_goes_on before after c last (Err error) refused refused_after serves = serves.1

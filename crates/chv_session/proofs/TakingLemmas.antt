@@ -1,5 +1,5 @@
 -- What a session takes, piece by piece.
-use Rattle.std.proofs.Common.{◌≡◌, ◌≤◌, ℕ, zero, suc, ◌+◌, List, [], ◌∷◌, ◌++◌, length, take, drop, Option, None, Some, Ok, Err, sym, ap, subst, ◌∙◌, arith, append_assoc, length-append, add_assoc, add-zero}
+use Rattle.std.proofs.Common.{◌≡◌, ◌≤◌, ℕ, zero, suc, ◌+◌, List, [], ◌∷◌, ◌++◌, length, take, drop, Option, None, Some, Ok, sym, ap, subst, ◌∙◌, arith, append_assoc, length-append, add_assoc, add-zero}
 use Rattle.std.specs.List.{concat}
 use Rattle.std.proofs.lemmas.List.{append-nil, append_cancel_left, length-take-le, take-append-drop, drop-drop}
 use Rattle.std.proofs.Math.Seq.{drop-append_seam}
@@ -9,9 +9,14 @@ use Rattle.chv_io.specs.Links.{Gives, Fills, GivesMost}
 use Rattle.chv_defs_api.specs.Requests.{IsShort}
 use Rattle.chv_defs_api.specs.SessionBytes.{AreTaken, AreGiven, asks_for}
 use Rattle.chv_io.specs.declared.failed.Failed.{Failed}
-use Rattle.chv_session.specs.Taking.{AreGivenWhereTold, TakesPieces, HasFed}
+use Rattle.chv_session.specs.Taking.{Intake, AreGivenWhereTold, TakesPieces, HasFed}
 
 -- ---- no piece
+
+given_none : (most : Option ℕ) (left : Option (List ℕ)) (count : ℕ) → AreGivenWhereTold most left count []
+given_none (Some most) (Some left) count = tt
+given_none (Some most) None count = tt
+given_none None left count = tt
 
 loses_none : (left left_after : Option (List ℕ)) → left_after ≡ left → Loses left left_after []
 loses_none None left_after same = same
@@ -23,40 +28,16 @@ gains_none None gave_after same = same
 gains_none (Some before) None same = absurd (cc same)
 gains_none (Some before) (Some after) same = let e : after ≡ before = cc in e ∙ sym (append-nil before)
 
-given_none : (most : Option ℕ) (left : Option (List ℕ)) (count : ℕ) → AreGivenWhereTold most left count []
-given_none (Some most) (Some left) count = tt
-given_none (Some most) None count = tt
-given_none None left count = tt
-
-pub takes_none : (asked rest : List ℕ) (left left_after gave gave_after : Option (List ℕ)) (most : Option ℕ)
-    → left_after ≡ left → gave_after ≡ gave → TakesPieces asked asked rest left left_after gave gave_after most
-takes_none asked rest left left_after gave gave_after most left_is gave_is = record {
+pub takes_none : {before after : Intake} → after.asked ≡ before.asked → after.left ≡ before.left → after.gave ≡ before.gave
+    → TakesPieces before after
+takes_none {before} {after} same left_is gave_is = record {
   pieces = [];
-  grows = sym (append-nil asked);
+  grows = same ∙ sym (append-nil before.asked);
   taken = tt;
-  given = given_none most left (length asked);
-  loses = loses_none left left_after left_is;
-  gains = gains_none gave gave_after gave_is;
+  given = given_none before.most before.left (length before.asked);
+  loses = loses_none before.left after.left left_is;
+  gains = gains_none before.gave after.gave gave_is;
 }
-
--- ---- a read that failed
-
-left_failed : (e : Failed) (left left_after : Option (List ℕ)) (buffer : List ℕ) → Takes left left_after buffer (Err e) → left_after ≡ left
-left_failed e None left_after buffer takes = takes
-left_failed e (Some before) None buffer takes = absurd takes
-left_failed e (Some before) (Some after) buffer takes = ap Some takes
-
-gave_failed : (e : Failed) (gave gave_after : Option (List ℕ)) (buffer : List ℕ) → Gives gave gave_after buffer (Err e) → gave_after ≡ gave
-gave_failed e None gave_after buffer gives = gives
-gave_failed e (Some before) None buffer gives = absurd gives
-gave_failed e (Some before) (Some after) buffer gives = ap Some gives
-
-pub takes_failed : (e : Failed) (asked rest buffer : List ℕ) (left left_after gave gave_after : Option (List ℕ)) (most : Option ℕ)
-    → Takes left left_after buffer (Err e) → Gives gave gave_after buffer (Err e)
-    → TakesPieces asked asked rest left left_after gave gave_after most
-takes_failed e asked rest buffer left left_after gave gave_after most takes gives =
-    takes_none asked rest left left_after gave gave_after most (left_failed e left left_after buffer takes)
-    (gave_failed e gave gave_after buffer gives)
 
 -- ---- a read that was answered
 
@@ -83,31 +64,52 @@ given_read None left count n piece long full = tt
 one_piece : (piece : List ℕ) → piece ≡ concat (piece ∷ [])
 one_piece piece = sym (append-nil piece)
 
-pub takes_read : (asked asked_after rest buffer : List ℕ) (n room : ℕ) (left left_after gave gave_after : Option (List ℕ))
-    (most most_after : Option ℕ) → IsShort rest → room ≡ asks_for (length asked)
-    → n ≤ room → n ≤ length buffer
-    → Takes {E = Failed} left left_after buffer (Ok n) → Gives {E = Failed} gave gave_after buffer (Ok n)
-    → Fills {E = Failed} left most most_after room (Ok n) → asked_after ≡ asked ++ take n buffer
-    → TakesPieces asked asked_after rest left left_after gave gave_after most
-takes_read asked asked_after rest buffer zero room left left_after gave gave_after most most_after short asks within held takes gives fills grows = record {
-  pieces = [];
-  grows = grows;
-  taken = tt;
-  given = given_none most left (length asked);
-  loses = loses_read left left_after buffer 0 takes;
-  gains = gains_read gave gave_after buffer 0 gives;
+-- what is known of a read of so many bytes into a buffer with this room, behind which what was asked has them
+pub record HasRead (before after : Intake) (buffer : List ℕ) (n room : ℕ) : Type 0 where
+  pub short : IsShort before.rest
+  pub asks : room ≡ asks_for (length before.asked)
+  pub within : n ≤ room
+  pub held : n ≤ length buffer
+  pub moves : Takes {E = Failed} before.left after.left buffer (Ok n)
+  pub gives : Gives {E = Failed} before.gave after.gave buffer (Ok n)
+  pub fills : Fills {E = Failed} before.left before.most after.most room (Ok n)
+  pub kept : after.asked ≡ before.asked ++ take n buffer
+
+pub read_is : {before after : Intake} {buffer : List ℕ} {n room : ℕ} → n ≤ length buffer → IsShort before.rest
+    → room ≡ asks_for (length before.asked) → n ≤ room → Takes {E = Failed} before.left after.left buffer (Ok n)
+    → Gives {E = Failed} before.gave after.gave buffer (Ok n) → Fills {E = Failed} before.left before.most after.most room (Ok n)
+    → after.asked ≡ before.asked ++ take n buffer → HasRead before after buffer n room
+read_is held short asks within moves gives fills kept = record {
+  short = short;
+  asks = asks;
+  within = within;
+  held = held;
+  moves = moves;
+  gives = gives;
+  fills = fills;
+  kept = kept;
 }
-takes_read asked asked_after rest buffer (suc n) room left left_after gave gave_after most most_after short asks within held takes gives fills grows =
+
+pub takes_read : {before after : Intake} {buffer : List ℕ} {n room : ℕ} → HasRead before after buffer n room → TakesPieces before after
+takes_read {before} {after} {buffer} {n = zero} {room} read = record {
+  pieces = [];
+  grows = read.kept;
+  taken = tt;
+  given = given_none before.most before.left (length before.asked);
+  loses = loses_read before.left after.left buffer 0 read.moves;
+  gains = gains_read before.gave after.gave buffer 0 read.gives;
+}
+takes_read {before} {after} {buffer} {n = suc n} {room} read =
     let piece = take (suc n) buffer in
-    let long : length piece ≡ suc n = length-take-le (suc n) buffer held in
+    let long : length piece ≡ suc n = length-take-le (suc n) buffer read.held in
     record {
       pieces = piece ∷ [];
-      grows = grows ∙ ap (λ b. asked ++ b) (one_piece piece);
-      taken = (short, omega (arith, long), omega (arith, long), tt);
-      given = given_read most left (length asked) (suc n) piece long
-          (subst (λ r. GivesMost {E = Failed} left most r (Ok (suc n))) asks fills.full);
-      loses = subst (λ b. Loses left left_after b) (one_piece piece) (loses_read left left_after buffer (suc n) takes);
-      gains = subst (λ b. Gains gave gave_after b) (one_piece piece) (gains_read gave gave_after buffer (suc n) gives);
+      grows = read.kept ∙ ap (λ b. before.asked ++ b) (one_piece piece);
+      taken = (read.short, omega (arith, long), omega (arith, long, read.within, read.asks), tt);
+      given = given_read before.most before.left (length before.asked) (suc n) piece long
+          (subst (λ r. GivesMost {E = Failed} before.left before.most r (Ok (suc n))) read.asks read.fills.full);
+      loses = subst (λ b. Loses before.left after.left b) (one_piece piece) (loses_read before.left after.left buffer (suc n) read.moves);
+      gains = subst (λ b. Gains before.gave after.gave b) (one_piece piece) (gains_read before.gave after.gave buffer (suc n) read.gives);
     }
 
 -- ---- pieces and more pieces
@@ -177,21 +179,28 @@ fed_join a b c r s t first second = (
   second.2 ∙ ap (λ l. l ++ second.0) first.2 ∙ append_assoc r first.0 second.0,
 )
 
-pub takes_join : (a b c r s : List ℕ) (k l m g h i : Option (List ℕ)) (most most_then : Option ℕ) → TakesPieces a b r k l g h most
-    → HasFed a b r s → most_then ≡ most → TakesPieces b c s l m h i most_then → TakesPieces a c r k m g i most
-takes_join a b c r s k l m g h i most most_then first fed same second =
-    let more : concat first.pieces ≡ fed.0 = append_cancel_left a (concat first.pieces) fed.0 (sym first.grows ∙ fed.1) in
-    let rest : s ≡ r ++ concat first.pieces = fed.2 ∙ ap (λ b. r ++ b) (sym more) in
-    let count : length b ≡ length a + length (concat first.pieces) = ap length first.grows ∙ length-append a (concat first.pieces) in
-    let all = concat-append first.pieces second.pieces in
+pub takes_join : {first then_at after : Intake} → TakesPieces first then_at
+    → HasFed first.asked then_at.asked first.rest then_at.rest → then_at.most ≡ first.most → TakesPieces then_at after
+    → TakesPieces first after
+takes_join {first} {then_at} {after} one fed same two =
+    let a = first.asked in
+    let now = then_at.asked in
+    let more : concat one.pieces ≡ fed.0 = append_cancel_left a (concat one.pieces) fed.0 (sym one.grows ∙ fed.1) in
+    let rest : then_at.rest ≡ first.rest ++ concat one.pieces = fed.2 ∙ ap (λ b. first.rest ++ b) (sym more) in
+    let count : length now ≡ length a + length (concat one.pieces) = ap length one.grows ∙ length-append a (concat one.pieces) in
+    let all = concat-append one.pieces two.pieces in
     record {
-      pieces = first.pieces ++ second.pieces;
-      grows = second.grows ∙ ap (λ l. l ++ concat second.pieces) first.grows
-          ∙ append_assoc a (concat first.pieces) (concat second.pieces) ∙ ap (λ l. a ++ l) (sym all);
-      taken = taken_join (length a) r first.pieces second.pieces first.taken
-          (subst (λ n. AreTaken n (r ++ concat first.pieces) second.pieces) count (subst (λ t. AreTaken (length b) t second.pieces) rest second.taken));
-      given = given_where_told_join most k l (length a) first.pieces second.pieces first.loses first.given
-          (subst (λ n. AreGivenWhereTold most l n second.pieces) count (subst (λ o. AreGivenWhereTold o l (length b) second.pieces) same second.given));
-      loses = subst (λ b. Loses k m b) (sym all) (loses_join k l m (concat first.pieces) (concat second.pieces) first.loses second.loses);
-      gains = subst (λ b. Gains g i b) (sym all) (gains_join g h i (concat first.pieces) (concat second.pieces) first.gains second.gains);
+      pieces = one.pieces ++ two.pieces;
+      grows = two.grows ∙ ap (λ l. l ++ concat two.pieces) one.grows
+          ∙ append_assoc a (concat one.pieces) (concat two.pieces) ∙ ap (λ l. a ++ l) (sym all);
+      taken = taken_join (length a) first.rest one.pieces two.pieces one.taken
+          (subst (λ n. AreTaken n (first.rest ++ concat one.pieces) two.pieces) count
+          (subst (λ t. AreTaken (length now) t two.pieces) rest two.taken));
+      given = given_where_told_join first.most first.left then_at.left (length a) one.pieces two.pieces one.loses one.given
+          (subst (λ n. AreGivenWhereTold first.most then_at.left n two.pieces) count
+          (subst (λ o. AreGivenWhereTold o then_at.left (length now) two.pieces) same two.given));
+      loses = subst (λ b. Loses first.left after.left b) (sym all)
+          (loses_join first.left then_at.left after.left (concat one.pieces) (concat two.pieces) one.loses two.loses);
+      gains = subst (λ b. Gains first.gave after.gave b) (sym all)
+          (gains_join first.gave then_at.gave after.gave (concat one.pieces) (concat two.pieces) one.gains two.gains);
     }

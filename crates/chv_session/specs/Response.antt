@@ -11,6 +11,7 @@ use Rattle.chv_defs_api.specs.Routes.{call_of_request, refusal_bytes}
 use Rattle.chv_defs_api.specs.SessionBytes.{Answered, Holds}
 use Rattle.chv_session.specs.declared.fill.Found.{Found}
 use Rattle.chv_session.specs.declared.fill.Found.TheVariants as found
+use Rattle.chv_session.specs.declared.respond.Response.{Response}
 use Rattle.chv_session.specs.declared.respond.Then.{Then}
 use Rattle.chv_session.specs.declared.respond.Then.TheVariants as then_is
 use Rattle.chv_session.specs.declared.state.State.{State}
@@ -49,32 +50,43 @@ abbrev pub end_at : Bool → SessionEnd
 end_at true = end.Ended
 end_at false = end.Cut
 
--- What a session responds to what it found, where all bytes are answered or not: the reply, what comes then, the calls
+-- What a session responds to what it found, where all bytes are answered or not: the reply and what comes then, the calls
 -- that it made, and the call that was answered Stopped.
-abbrev pub Responds : Found → Bool → Option (List ℕ) → Then → List Answer → Option ControlCall → Option ControlCall → Type 0
-Responds (found.Request request) all reply after made refused refused_after = Serves request reply after made refused refused_after
-Responds (found.Bad rule) all reply after made refused refused_after =
-    (reply ≡ Some (refusal_bytes rule true)) × (after ≡ then_is.Leave end.Bad) × (made ≡ []) × (refused_after ≡ refused)
-Responds found.End all reply after made refused refused_after =
-    (reply ≡ None) × (after ≡ then_is.End (end_at all)) × (made ≡ []) × (refused_after ≡ refused)
-Responds found.Fault all reply after made refused refused_after =
-    (reply ≡ None) × (after ≡ then_is.End end.Fault) × (made ≡ []) × (refused_after ≡ refused)
-Responds found.Limit all reply after made refused refused_after =
-    (reply ≡ None) × (after ≡ then_is.End end.Limit) × (made ≡ []) × (refused_after ≡ refused)
+abbrev pub Responds : Found → Bool → Response → List Answer → Option ControlCall → Option ControlCall → Type 0
+Responds (found.Request request) all response made refused refused_after =
+    Serves request response.reply response.then made refused refused_after
+Responds (found.Bad rule) all response made refused refused_after =
+    (response.reply ≡ Some (refusal_bytes rule true)) × (response.then ≡ then_is.Leave end.Bad) × (made ≡ []) × (refused_after ≡ refused)
+Responds found.End all response made refused refused_after =
+    (response.reply ≡ None) × (response.then ≡ then_is.End (end_at all)) × (made ≡ []) × (refused_after ≡ refused)
+Responds found.Fault all response made refused refused_after =
+    (response.reply ≡ None) × (response.then ≡ then_is.End end.Fault) × (made ≡ []) × (refused_after ≡ refused)
+Responds found.Limit all response made refused refused_after =
+    (response.reply ≡ None) × (response.then ≡ then_is.End end.Limit) × (made ≡ []) × (refused_after ≡ refused)
 
 -- The calls that were made of what was found, where memory was wanting before a reply was there.
 abbrev pub BreaksOn : Found → List Answer → Type 0
 BreaksOn (found.Request request) made = BreaksIn request made
 BreaksOn _ made = made ≡ []
 
+-- What a session has replied, what was put into its connection, where that is told, and the count of failed writes.
+pub record Sent : Type 0 where
+  pub replied : List ℕ
+  pub put : Option (List ℕ)
+  pub writes : ℕ
+
+-- these together
+abbrev pub sent : List ℕ → Option (List ℕ) → ℕ → Sent
+sent replied put writes = record { replied = replied; put = put; writes = writes }
+
 -- A reply was put and kept, and what comes then stays; or the connection failed, a first part was put and none of it
 -- kept, and the end is Fault.
-abbrev pub Sends : Option (List ℕ) → Then → Then → List ℕ → List ℕ → Option (List ℕ) → Option (List ℕ) → ℕ → ℕ → Type 0
-Sends None planned after replied replied_after put put_after faults faults_after =
-    (after ≡ planned) × (replied_after ≡ replied) × (put_after ≡ put)
-Sends (Some bytes) planned after replied replied_after put put_after faults faults_after =
-    ((after ≡ planned) × (replied_after ≡ replied ++ bytes) × Gains put put_after bytes)
-    ⊎ ((after ≡ then_is.End end.Fault) × (replied_after ≡ replied) × GainsPart put put_after bytes × Rose faults faults_after)
+abbrev pub Sends : Option (List ℕ) → Then → Then → Sent → Sent → Type 0
+Sends None planned then_of before after = (then_of ≡ planned) × (after.replied ≡ before.replied) × (after.put ≡ before.put)
+Sends (Some bytes) planned then_of before after =
+    ((then_of ≡ planned) × (after.replied ≡ before.replied ++ bytes) × Gains before.put after.put bytes)
+    ⊎ ((then_of ≡ then_is.End end.Fault) × (after.replied ≡ before.replied) × GainsPart before.put after.put bytes
+    × Rose before.writes after.writes)
 
 -- whether a call is a Bye
 abbrev pub is_bye : ControlCall → Bool

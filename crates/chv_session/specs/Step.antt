@@ -49,49 +49,70 @@ Answers stands hand rest reply made =
     ⊎ ((rule : Rule) × IsBad hand rule × (rest ≡ hand) × (made ≡ []) × (reply ≡ refusal_bytes rule true)
     × (stands ≡ state.Leaving end.Bad))
 
+-- ---- what is at hand
+
+-- What an open session had at hand in a call: the bytes, those that it had not answered and those that it took; the rest that
+-- is left of them; all that it has asked; and the counts of its connection's faults, before the call and after it.
+pub record Hand : Type 0 where
+  pub bytes : List ℕ
+  pub rest : List ℕ
+  pub asked : List ℕ
+  pub counts : Faults
+
+-- what it had that took these bytes more
+abbrev pub hand_between : Moment → List ℕ → Moment → Hand
+hand_between before more after = record {
+  bytes = before.talk.rest ++ more;
+  rest = after.talk.rest;
+  asked = after.talk.asked;
+  counts = faults before.reads after.reads before.writes after.writes;
+}
+
 -- ---- an end without an answer
 
--- How a session ends that answers nothing in the call: by the bytes at hand and the rest of them, all that were asked,
--- the reply of which not all could be put, the calls before the Bye, and the counts of faults. At a Fault a read failed
--- where neither a request nor a refusal was at hand, and else the write of the reply.
-abbrev pub ComesToEnd : SessionEnd → List ℕ → List ℕ → List ℕ → List ℕ → List Answer → Faults → Type 0
-ComesToEnd end.Ended hand rest asked unsent calls counts =
-    (hand ≡ []) × (rest ≡ []) × (length asked < session_limit) × (unsent ≡ []) × (calls ≡ [])
-ComesToEnd end.Cut hand rest asked unsent calls counts =
-    IsShort hand × (hand ≢ []) × (rest ≡ hand) × (length asked < session_limit) × (unsent ≡ []) × (calls ≡ [])
-ComesToEnd end.Fault hand rest asked unsent calls counts =
-    (IsShort hand × (rest ≡ hand) × (length asked < session_limit) × (unsent ≡ []) × (calls ≡ []) × Rose counts.reads counts.reads_after)
-    ⊎ ((rule : Rule) × IsBad hand rule × (rest ≡ hand) × (unsent ≡ refusal_bytes rule true) × (calls ≡ [])
-    × Rose counts.writes counts.writes_after)
-    ⊎ ((request : Request) × BeginsWith hand request rest × Answered request calls unsent × Rose counts.writes counts.writes_after)
-ComesToEnd end.Limit hand rest asked unsent calls counts =
-    IsShort hand × (rest ≡ hand) × (length asked ≡ session_limit) × (unsent ≡ []) × (calls ≡ [])
-ComesToEnd end.Bad hand rest asked unsent calls counts = ⊥
-ComesToEnd end.Closed hand rest asked unsent calls counts = ⊥
-ComesToEnd end.Stopped hand rest asked unsent calls counts = ⊥
+-- How a session ends that answers nothing in the call: by what it had at hand, the reply of which not all could be put, and
+-- the calls before the Bye. At a Fault a read failed where neither a request nor a refusal was at hand, and else the write of
+-- the reply.
+abbrev pub ComesToEnd : SessionEnd → Hand → List ℕ → List Answer → Type 0
+ComesToEnd end.Ended hand unsent calls =
+    (hand.bytes ≡ []) × (hand.rest ≡ []) × (length hand.asked < session_limit) × (unsent ≡ []) × (calls ≡ [])
+ComesToEnd end.Cut hand unsent calls =
+    IsShort hand.bytes × (hand.bytes ≢ []) × (hand.rest ≡ hand.bytes) × (length hand.asked < session_limit) × (unsent ≡ [])
+    × (calls ≡ [])
+ComesToEnd end.Fault hand unsent calls =
+    (IsShort hand.bytes × (hand.rest ≡ hand.bytes) × (length hand.asked < session_limit) × (unsent ≡ []) × (calls ≡ [])
+    × Rose hand.counts.reads hand.counts.reads_after)
+    ⊎ ((rule : Rule) × IsBad hand.bytes rule × (hand.rest ≡ hand.bytes) × (unsent ≡ refusal_bytes rule true) × (calls ≡ [])
+    × Rose hand.counts.writes hand.counts.writes_after)
+    ⊎ ((request : Request) × BeginsWith hand.bytes request hand.rest × Answered request calls unsent
+    × Rose hand.counts.writes hand.counts.writes_after)
+ComesToEnd end.Limit hand unsent calls =
+    IsShort hand.bytes × (hand.rest ≡ hand.bytes) × (length hand.asked ≡ session_limit) × (unsent ≡ []) × (calls ≡ [])
+ComesToEnd end.Bad hand unsent calls = ⊥
+ComesToEnd end.Closed hand unsent calls = ⊥
+ComesToEnd end.Stopped hand unsent calls = ⊥
 
 -- The run stopped in a request, or at the Bye of another end, where this call was answered Stopped.
-abbrev pub Stops : List ℕ → List ℕ → List ℕ → List ℕ → List Answer → Option ControlCall → Faults → Type 0
-Stops hand rest asked unsent made refused counts =
-    ((request : Request) × BeginsWith hand request rest × StopsIn request made refused × (unsent ≡ []))
-    ⊎ ((how : SessionEnd) × ComesToEnd how hand rest asked unsent made counts × (refused ≡ Some call.Bye))
+abbrev pub Stops : Hand → List ℕ → List Answer → Option ControlCall → Type 0
+Stops hand unsent made refused =
+    ((request : Request) × BeginsWith hand.bytes request hand.rest × StopsIn request made refused × (unsent ≡ []))
+    ⊎ ((how : SessionEnd) × ComesToEnd how hand unsent made × (refused ≡ Some call.Bye))
 
 -- An end with its calls: one Bye is the last of them, and there is none where the run stopped.
-abbrev pub EndsBy : SessionEnd → List ℕ → List ℕ → List ℕ → List ℕ → List Answer → Option ControlCall → Faults → Type 0
-EndsBy end.Stopped hand rest asked unsent made refused counts = Stops hand rest asked unsent made refused counts
-EndsBy how hand rest asked unsent made refused counts =
-    (calls : List Answer) × (bye : Answer) × ComesToEnd how hand rest asked unsent calls counts × (bye.call ≡ call.Bye)
-    × (made ≡ calls ++ bye ∷ [])
+abbrev pub EndsBy : SessionEnd → Hand → List ℕ → List Answer → Option ControlCall → Type 0
+EndsBy end.Stopped hand unsent made refused = Stops hand unsent made refused
+EndsBy how hand unsent made refused =
+    (calls : List Answer) × (bye : Answer) × ComesToEnd how hand unsent calls × (bye.call ≡ call.Bye) × (made ≡ calls ++ bye ∷ [])
 
 -- ---- the outcome
 
 -- An answer, whose reply was put whole; or an end, at which no reply was, but perhaps a first part of one.
-abbrev pub Outcome : Next → State → List ℕ → List ℕ → List ℕ → List ℕ → List Answer → Option ControlCall → Option (List ℕ) → Option (List ℕ) → Faults → Type 0
-Outcome next.Answered stands hand rest asked reply made refused put put_after counts =
-    Answers stands hand rest reply made × Gains put put_after reply
-Outcome (next.Ended how) stands hand rest asked reply made refused put put_after counts =
-    (unsent : List ℕ) × (stands ≡ state.Ended how) × (reply ≡ []) × EndsBy how hand rest asked unsent made refused counts
-    × GainsPart put put_after unsent
+abbrev pub Outcome : Next → Moment → Moment → Hand → List Answer → List ℕ → Type 0
+Outcome next.Answered before after hand made reply =
+    Answers after.talk.state hand.bytes hand.rest reply made × Gains before.put after.put reply
+Outcome (next.Ended how) before after hand made reply =
+    (unsent : List ℕ) × (after.talk.state ≡ state.Ended how) × (reply ≡ []) × EndsBy how hand unsent made after.refused
+    × GainsPart before.put after.put unsent
 
 -- No call was answered Stopped but where that is the end.
 abbrev pub Refuses : Next → Option ControlCall → Option ControlCall → Type 0
@@ -100,15 +121,15 @@ Refuses _ before after = after ≡ before
 
 -- What an open session did: the bytes that it took, the calls that it made, and the reply that was put, each behind what
 -- was there. After an answer it took nothing more.
-pub record Step (what : Next) (stands : State) (asked asked_after rest rest_after replied replied_after : List ℕ) (answers answers_after : List Answer) (refused refused_after : Option ControlCall) (put put_after : Option (List ℕ)) (counts : Faults) : Type 0 where
+pub record Step (what : Next) (before after : Moment) : Type 0 where
   pub more : List ℕ
   pub made : List Answer
   pub reply : List ℕ
-  pub takes : asked_after ≡ asked ++ more
-  pub calls : answers_after ≡ answers ++ made
-  pub replies : replied_after ≡ replied ++ reply
-  pub outcome : Outcome what stands (rest ++ more) rest_after asked_after reply made refused_after put put_after counts
-  pub refuses : Refuses what refused refused_after
+  pub takes : after.talk.asked ≡ before.talk.asked ++ more
+  pub calls : after.answers ≡ before.answers ++ made
+  pub replies : after.talk.replied ≡ before.talk.replied ++ reply
+  pub outcome : Outcome what before after (hand_between before more after) made reply
+  pub refuses : Refuses what before.refused after.refused
 
 -- Behind an answer no Settle is owed.
 abbrev pub IsReady : Next → List Answer → Type 0
@@ -118,32 +139,29 @@ IsReady (next.Ended how) answers = ⊤
 -- ---- want of memory
 
 -- Where memory was wanting: before a call was made and a byte put; in a request, of which the reply was not put; or at
--- the Bye of an end.
-abbrev pub BreaksAt : List ℕ → List ℕ → List ℕ → List Answer → Faults → Type 0
-BreaksAt hand asked unsent made counts =
+-- the Bye of an end. What the session left of the bytes at hand is not told.
+abbrev pub BreaksAt : Hand → List ℕ → List Answer → Type 0
+BreaksAt hand unsent made =
     ((made ≡ []) × (unsent ≡ []))
-    ⊎ ((request : Request) × (behind : List ℕ) × BeginsWith hand request behind × BreaksIn request made × (unsent ≡ []))
-    ⊎ ((how : SessionEnd) × (rest : List ℕ) × ComesToEnd how hand rest asked unsent made counts)
+    ⊎ ((request : Request) × (behind : List ℕ) × BeginsWith hand.bytes request behind × BreaksIn request made × (unsent ≡ []))
+    ⊎ ((how : SessionEnd) × (rest : List ℕ) × ComesToEnd how (record hand { rest = rest }) unsent made)
 
 -- What want of memory leaves of what an open session did: no reply is kept, and of one a first part was put, perhaps none.
-pub record Breaks (asked asked_after rest replied replied_after : List ℕ) (answers answers_after : List Answer) (put put_after : Option (List ℕ)) (counts : Faults) : Type 0 where
+pub record Breaks (before after : Moment) : Type 0 where
   pub more : List ℕ
   pub made : List Answer
   pub unsent : List ℕ
-  pub takes : asked_after ≡ asked ++ more
-  pub calls : answers_after ≡ answers ++ made
-  pub replies : replied_after ≡ replied
-  pub puts : GainsPart put put_after unsent
-  pub place : BreaksAt (rest ++ more) asked_after unsent made counts
+  pub takes : after.talk.asked ≡ before.talk.asked ++ more
+  pub calls : after.answers ≡ before.answers ++ made
+  pub replies : after.talk.replied ≡ before.talk.replied
+  pub puts : GainsPart before.put after.put unsent
+  pub place : BreaksAt (hand_between before more after) unsent made
 
 -- ---- a call, by where the session stood
 
 -- What a call comes to that was made of a session there.
 abbrev pub ComesFrom : State → Next → Moment → Moment → Type 0
-ComesFrom state.Open what before after =
-    Step what after.talk.state before.talk.asked after.talk.asked before.talk.rest after.talk.rest before.talk.replied
-    after.talk.replied before.answers after.answers before.refused after.refused before.put after.put
-    (faults before.reads after.reads before.writes after.writes)
+ComesFrom state.Open what before after = Step what before after
 ComesFrom (state.Leaving how) what before after =
     (came : SessionEnd) × (what ≡ next.Ended came) × (after.talk ≡ record before.talk { state = state.Ended came })
     × Leaves how came before.answers after.answers before.refused after.refused × (after.put ≡ before.put)
@@ -158,10 +176,7 @@ ComesTo what before after = ComesFrom before.talk.state what before after
 -- What want of memory leaves of a session that stood there.
 abbrev pub LosesFrom : State → Moment → Moment → Type 0
 LosesFrom state.Open before after =
-    (after.talk.state ≡ state.Lost)
-    × Breaks before.talk.asked after.talk.asked before.talk.rest before.talk.replied after.talk.replied before.answers
-    after.answers before.put after.put (faults before.reads after.reads before.writes after.writes)
-    × (after.refused ≡ before.refused)
+    (after.talk.state ≡ state.Lost) × Breaks before after × (after.refused ≡ before.refused)
 LosesFrom (state.Leaving how) before after =
     (after.talk ≡ record before.talk { state = state.Lost }) × (after.answers ≡ before.answers)
     × (after.refused ≡ before.refused) × (after.put ≡ before.put)

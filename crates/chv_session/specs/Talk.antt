@@ -13,6 +13,10 @@ pub record Talk : Type 0 where
   pub replied : List ℕ
   pub state : State
 
+-- these together
+abbrev pub talk_of : List ℕ → List ℕ → List ℕ → State → Talk
+talk_of asked rest replied stands = record { asked = asked; rest = rest; replied = replied; state = stands }
+
 -- A session of which nothing came so far.
 abbrev pub new_talk : Talk
 new_talk = record { asked = []; rest = []; replied = []; state = state.Open }

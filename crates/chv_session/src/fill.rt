@@ -1,10 +1,9 @@
 // Takes from a connection until something is at hand.
-ghost use Rattle.std.specs.Prelude.{◌≡◌, ◌<◌, ◌≤◌, ◌+◌, [], ◌++◌, length, vec_len, vec_capacity, IfOk, IfSome, OnErr};
-ghost use Rattle.chv_io.specs.Outside.{Rose};
+ghost use Rattle.std.specs.Prelude.{◌≡◌, ◌<◌, ◌≤◌, ◌+◌, ◌++◌, length, vec_len, vec_capacity, IfOk};
 ghost use Rattle.chv_io.specs.Links.{ReadLeaves};
 ghost use Rattle.chv_defs_api.specs.Requests.{IsShort};
 ghost use Rattle.chv_defs_api.specs.SessionBytes.{session_limit, asks_for};
-ghost use Rattle.chv_session.specs.Taking.{TakesPieces, HasFed, IsSame};
+ghost use Rattle.chv_session.specs.Taking.{intake, TakesPiece, TakesPieces};
 ghost use Rattle.chv_session.specs.Found.{Finds, IsDrained, IsCaused};
 
 use chv_defs_api::{Request, Took};
@@ -57,19 +56,12 @@ fn take_into<K: Link>(
     requires some { 0 < length buffer.old }
     requires room { vec_len asked.old + length buffer.old ≤ vec_capacity asked.old }
     requires short { IsShort parser.old }
-    ensures taken { TakesPieces asked.old.items asked.new.items parser.old (K.left link.old) (K.left link.new)
-        (K.gave link.old) (K.gave link.new) (K.most link.old) }
+    ensures takes { TakesPiece result
+        (intake asked.old.items parser.old (K.left link.old) (K.gave link.old) (K.most link.old) (K.read_faults link.old))
+        (intake asked.new.items parser.new (K.left link.new) (K.gave link.new) (K.most link.new) (K.read_faults link.new)) }
     ensures within { vec_len asked.new ≤ vec_len asked.old + length buffer.old }
-    ensures fed { IfOk result (λ _. HasFed asked.old.items asked.new.items parser.old parser.new) }
-    ensures count { IfOk result (λ answer. IfOk answer (λ n. vec_len asked.new ≡ vec_len asked.old + n)) }
-    ensures empty { IfOk result (λ answer. IfOk answer (λ n. n ≡ 0 → IsSame asked.old.items asked.new.items parser.old parser.new)) }
-    ensures failed { IfOk result (λ answer. OnErr answer (IsSame asked.old.items asked.new.items parser.old parser.new)) }
-    ensures end { IfOk result (λ answer. IfOk answer (λ n. n ≡ 0 → IfSome (K.left link.new) (λ bytes. bytes ≡ []))) }
-    ensures cause { IfOk result (λ answer. OnErr answer (Rose (K.read_faults link.old) (K.read_faults link.new))) }
     ensures leaves { ReadLeaves (K.written link.old) (K.written link.new) (K.closed link.old) (K.closed link.new)
         (K.write_faults link.old) (K.write_faults link.new) }
-    ensures most { K.most link.new ≡ K.most link.old }
-    ensures later { K.read_faults link.old ≤ K.read_faults link.new }
 {
     match read_from(link, buffer) {
         Ok(count) => {
@@ -89,19 +81,12 @@ fn take_piece<K: Link>(
 ) -> Result<Result<usize, Failed>, AllocError>
     requires room { vec_len asked.old < session_limit }
     requires short { IsShort parser.old }
-    ensures taken { TakesPieces asked.old.items asked.new.items parser.old (K.left link.old) (K.left link.new)
-        (K.gave link.old) (K.gave link.new) (K.most link.old) }
+    ensures takes { TakesPiece result
+        (intake asked.old.items parser.old (K.left link.old) (K.gave link.old) (K.most link.old) (K.read_faults link.old))
+        (intake asked.new.items parser.new (K.left link.new) (K.gave link.new) (K.most link.new) (K.read_faults link.new)) }
     ensures within { vec_len asked.new ≤ session_limit }
-    ensures fed { IfOk result (λ _. HasFed asked.old.items asked.new.items parser.old parser.new) }
-    ensures count { IfOk result (λ answer. IfOk answer (λ n. vec_len asked.new ≡ vec_len asked.old + n)) }
-    ensures empty { IfOk result (λ answer. IfOk answer (λ n. n ≡ 0 → IsSame asked.old.items asked.new.items parser.old parser.new)) }
-    ensures failed { IfOk result (λ answer. OnErr answer (IsSame asked.old.items asked.new.items parser.old parser.new)) }
-    ensures end { IfOk result (λ answer. IfOk answer (λ n. n ≡ 0 → IfSome (K.left link.new) (λ bytes. bytes ≡ []))) }
-    ensures cause { IfOk result (λ answer. OnErr answer (Rose (K.read_faults link.old) (K.read_faults link.new))) }
     ensures leaves { ReadLeaves (K.written link.old) (K.written link.new) (K.closed link.old) (K.closed link.new)
         (K.write_faults link.old) (K.write_faults link.new) }
-    ensures most { K.most link.new ≡ K.most link.old }
-    ensures later { K.read_faults link.old ≤ K.read_faults link.new }
 {
     asked.reserve(PIECE)?;
     let mut buffer = [0u8; PIECE];
@@ -116,8 +101,9 @@ pub(crate) fn fill<K: Link>(
     link: &mut K,
 ) -> Result<Found, AllocError>
     requires { vec_len asked.old ≤ session_limit }
-    ensures taken { TakesPieces asked.old.items asked.new.items parser.old (K.left link.old) (K.left link.new)
-        (K.gave link.old) (K.gave link.new) (K.most link.old) }
+    ensures taken { TakesPieces
+        (intake asked.old.items parser.old (K.left link.old) (K.gave link.old) (K.most link.old) (K.read_faults link.old))
+        (intake asked.new.items parser.new (K.left link.new) (K.gave link.new) (K.most link.new) (K.read_faults link.new)) }
     ensures within { vec_len asked.new ≤ session_limit }
     ensures found { IfOk result (λ found. Finds found asked.old.items asked.new.items parser.old parser.new) }
     ensures drained { IfOk result (λ found. IsDrained found (K.left link.new)) }

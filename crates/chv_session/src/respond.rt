@@ -215,7 +215,7 @@ pub(crate) fn respond<R: Copy, T: Desk<R>>(
     requires { IsSession (T.caller desk.old) }
     ensures caller { T.caller desk.new ≡ T.caller desk.old }
     ensures responds { IfOk result (λ response. HasMadeAlso (T.answers desk.old) (T.answers desk.new)
-        (λ made. Responds found all response.reply response.then made (T.refused desk.old) (T.refused desk.new))) }
+        (λ made. Responds found all response made (T.refused desk.old) (T.refused desk.new))) }
     ensures err { OnErr result (HasMadeAlso (T.answers desk.old) (T.answers desk.new) (λ made. BreaksOn found made)) }
     ensures err_goes_on { OnErr result (T.refused desk.new ≡ T.refused desk.old) }
     ensures asked { IsOnlyAsked T.asks desk.old desk.new }

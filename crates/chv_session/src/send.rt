@@ -3,9 +3,9 @@ ghost use Rattle.std.specs.Prelude.{◌≡◌, ◌≢◌, ◌≤◌, true, None,
 ghost use Rattle.chv_defs_api.specs.Desks.{IsSession};
 ghost use Rattle.chv_defs_api.specs.Desks.{IsOnlyAsked};
 ghost use Rattle.chv_io.specs.Links.{WriteLeaves};
-ghost use Rattle.chv_session.specs.Response.{Sends, Finishes, IsEnd};
+ghost use Rattle.chv_session.specs.Response.{sent, Sends, Finishes, IsEnd};
 ghost use Rattle.chv_session.specs.Step.{said_at};
-ghost use Rattle.chv_session.specs.Wire.{Closes, StaysButClosed};
+ghost use Rattle.chv_session.specs.Wire.{wire, Closes, StaysButClosed};
 
 use crate::fill::keep;
 use crate::respond::{Response, Then};
@@ -20,8 +20,9 @@ pub(crate) fn send<K: Link>(
     link: &mut K,
     response: &Response,
 ) -> Result<Then, AllocError>
-    ensures sends { IfOk result (λ after. Sends response.now.reply response.now.then after replied.old.items replied.new.items
-        (K.written link.old) (K.written link.new) (K.write_faults link.old) (K.write_faults link.new)) }
+    ensures sends { IfOk result (λ after. Sends response.now.reply response.now.then after
+        (sent replied.old.items (K.written link.old) (K.write_faults link.old))
+        (sent replied.new.items (K.written link.new) (K.write_faults link.new))) }
     ensures err_some { OnErr result (response.now.reply ≢ None) }
     ensures err_replied { OnErr result (replied.new.items ≡ replied.old.items) }
     ensures err_written { OnErr result (K.written link.new ≡ K.written link.old) }
@@ -60,9 +61,9 @@ pub(crate) fn leave<R: Copy, K: Link, T: Desk<R>>(
     ensures err_goes_on { OnErr result (T.refused desk.new ≡ T.refused desk.old) }
     ensures asked { IsOnlyAsked T.asks desk.old desk.new }
     ensures closed { K.closed link.new ≡ true }
-    ensures stays { StaysButClosed (K.left link.old) (K.left link.new) (K.gave link.old) (K.gave link.new)
-        (K.written link.old) (K.written link.new) (K.most link.old) (K.most link.new) (K.read_faults link.old)
-        (K.read_faults link.new) (K.write_faults link.old) (K.write_faults link.new) }
+    ensures stays { StaysButClosed
+        (wire (K.left link.old) (K.gave link.old) (K.written link.old) (K.most link.old) (K.read_faults link.old) (K.write_faults link.old))
+        (wire (K.left link.new) (K.gave link.new) (K.written link.new) (K.most link.new) (K.read_faults link.new) (K.write_faults link.new)) }
 {
     link.close();
     let answer = desk.ask(rt, &ControlCall::Bye)?;
@@ -95,9 +96,9 @@ pub(crate) fn finish<R: Copy, K: Link, T: Desk<R>>(
     ensures asked { IsOnlyAsked T.asks desk.old desk.new }
     ensures err_end { OnErr result (IsEnd then) }
     ensures closes { IfOk result (λ stands. Closes (said_at stands) (K.closed link.old) (K.closed link.new)) }
-    ensures stays { StaysButClosed (K.left link.old) (K.left link.new) (K.gave link.old) (K.gave link.new)
-        (K.written link.old) (K.written link.new) (K.most link.old) (K.most link.new) (K.read_faults link.old)
-        (K.read_faults link.new) (K.write_faults link.old) (K.write_faults link.new) }
+    ensures stays { StaysButClosed
+        (wire (K.left link.old) (K.gave link.old) (K.written link.old) (K.most link.old) (K.read_faults link.old) (K.write_faults link.old))
+        (wire (K.left link.new) (K.gave link.new) (K.written link.new) (K.most link.new) (K.read_faults link.new) (K.write_faults link.new)) }
 {
     match then {
         Then::GoOn => Ok(State::Open),

@@ -3,10 +3,10 @@ ghost use Rattle.std.specs.Prelude.{◌≡◌, ◌≢◌, ◌≤◌, true, false
 ghost use Rattle.chv_defs_api.specs.Desks.{IsSession};
 ghost use Rattle.chv_defs_api.specs.Desks.{IsOnlyAsked, is_held};
 ghost use Rattle.chv_defs_api.specs.SessionBytes.{session_limit};
-ghost use Rattle.chv_session.specs.Talk.{new_talk, end_of};
-ghost use Rattle.chv_session.specs.Taking.{TakesPieces};
-ghost use Rattle.chv_session.specs.Moment.{moment, faults};
-ghost use Rattle.chv_session.specs.Wire.{Closes, Drains, StaysButClosed};
+ghost use Rattle.chv_session.specs.Talk.{new_talk, talk_of, end_of};
+ghost use Rattle.chv_session.specs.Taking.{intake, TakesPieces};
+ghost use Rattle.chv_session.specs.Moment.{moment};
+ghost use Rattle.chv_session.specs.Wire.{wire, Closes, Drains, StaysButClosed};
 ghost use Rattle.chv_session.specs.Step.{Step, IsReady, Breaks, ComesTo, GetsLost, said_at, is_over};
 
 use crate::fill::fill;
@@ -35,23 +35,28 @@ fn step<R: Copy, K: Link, T: Desk<R>>(
     requires session { IsSession (T.caller desk.old) }
 
     // What it takes, whatever the answer.
-    ensures taken { TakesPieces asked.old.items asked.new.items parser.old (K.left link.old) (K.left link.new)
-        (K.gave link.old) (K.gave link.new) (K.most link.old) }
+    ensures taken { TakesPieces
+        (intake asked.old.items parser.old (K.left link.old) (K.gave link.old) (K.most link.old) (K.read_faults link.old))
+        (intake asked.new.items parser.new (K.left link.new) (K.gave link.new) (K.most link.new) (K.read_faults link.new)) }
     ensures within { vec_len asked.new ≤ session_limit }
 
     // What it comes to.
-    ensures step { IfOk result (λ stands. Step (said_at stands) stands asked.old.items asked.new.items parser.old parser.new
-        replied.old.items replied.new.items (T.answers desk.old) (T.answers desk.new) (T.refused desk.old) (T.refused desk.new)
-        (K.written link.old) (K.written link.new)
-        (faults (K.read_faults link.old) (K.read_faults link.new) (K.write_faults link.old) (K.write_faults link.new))) }
+    ensures step { IfOk result (λ stands. Step (said_at stands)
+        (moment (talk_of asked.old.items parser.old replied.old.items State.Open) (T.answers desk.old) (T.refused desk.old) (K.written link.old)
+        (K.read_faults link.old) (K.write_faults link.old))
+        (moment (talk_of asked.new.items parser.new replied.new.items stands) (T.answers desk.new) (T.refused desk.new) (K.written link.new)
+        (K.read_faults link.new) (K.write_faults link.new))) }
     ensures closes { IfOk result (λ stands. Closes (said_at stands) (K.closed link.old) (K.closed link.new)) }
-    ensures drains { IfOk result (λ stands. Drains (said_at stands) asked.old.items asked.new.items parser.old
-        (K.read_faults link.old) (K.read_faults link.new) (K.left link.new)) }
+    ensures drains { IfOk result (λ stands. Drains (said_at stands)
+        (intake asked.old.items parser.old (K.left link.old) (K.gave link.old) (K.most link.old) (K.read_faults link.old))
+        (intake asked.new.items parser.new (K.left link.new) (K.gave link.new) (K.most link.new) (K.read_faults link.new))) }
 
     // Want of memory.
-    ensures err { OnErr result (Breaks asked.old.items asked.new.items parser.old replied.old.items replied.new.items
-        (T.answers desk.old) (T.answers desk.new) (K.written link.old) (K.written link.new)
-        (faults (K.read_faults link.old) (K.read_faults link.new) (K.write_faults link.old) (K.write_faults link.new))) }
+    ensures err { OnErr result (Breaks
+        (moment (talk_of asked.old.items parser.old replied.old.items State.Open) (T.answers desk.old) (T.refused desk.old) (K.written link.old)
+        (K.read_faults link.old) (K.write_faults link.old))
+        (moment (talk_of asked.new.items parser.new replied.new.items State.Lost) (T.answers desk.new) (T.refused desk.new) (K.written link.new)
+        (K.read_faults link.new) (K.write_faults link.new))) }
     ensures err_goes_on { OnErr result (T.refused desk.new ≡ T.refused desk.old) }
 
     // What stays.
@@ -153,8 +158,9 @@ impl Session {
         requires settled { self.old.state ≡ State.Open → is_held (T.answers desk.old) ≡ false }
 
         // The bytes that it takes, whatever the answer.
-        ensures taken { TakesPieces self.old.asked self.new.asked self.old.rest (K.left link.old) (K.left link.new)
-            (K.gave link.old) (K.gave link.new) (K.most link.old) }
+        ensures taken { TakesPieces
+            (intake self.old.asked self.old.rest (K.left link.old) (K.gave link.old) (K.most link.old) (K.read_faults link.old))
+            (intake self.new.asked self.new.rest (K.left link.new) (K.gave link.new) (K.most link.new) (K.read_faults link.new)) }
 
         // What it comes to, by where it stood: its request, calls and reply, or its end.
         ensures outcome { IfOk result (λ next. ComesTo next
@@ -166,8 +172,9 @@ impl Session {
 
         // The connection, which is closed at an end.
         ensures closes { is_over self.old.state ≡ false → IfOk result (λ next. Closes next (K.closed link.old) (K.closed link.new)) }
-        ensures drains { self.old.state ≡ State.Open → IfOk result (λ next. Drains next self.old.asked self.new.asked
-            self.old.rest (K.read_faults link.old) (K.read_faults link.new) (K.left link.new)) }
+        ensures drains { self.old.state ≡ State.Open → IfOk result (λ next. Drains next
+            (intake self.old.asked self.old.rest (K.left link.old) (K.gave link.old) (K.most link.old) (K.read_faults link.old))
+            (intake self.new.asked self.new.rest (K.left link.new) (K.gave link.new) (K.most link.new) (K.read_faults link.new))) }
 
         // Want of memory.
         ensures lost { OnErr result (GetsLost
@@ -183,9 +190,9 @@ impl Session {
         ensures most { K.most link.new ≡ K.most link.old }
         ensures read_later { K.read_faults link.old ≤ K.read_faults link.new }
         ensures write_later { K.write_faults link.old ≤ K.write_faults link.new }
-        ensures link_stays { self.old.state ≢ State.Open → StaysButClosed (K.left link.old) (K.left link.new) (K.gave link.old)
-            (K.gave link.new) (K.written link.old) (K.written link.new) (K.most link.old) (K.most link.new)
-            (K.read_faults link.old) (K.read_faults link.new) (K.write_faults link.old) (K.write_faults link.new) }
+        ensures link_stays { self.old.state ≢ State.Open → StaysButClosed
+            (wire (K.left link.old) (K.gave link.old) (K.written link.old) (K.most link.old) (K.read_faults link.old) (K.write_faults link.old))
+            (wire (K.left link.new) (K.gave link.new) (K.written link.new) (K.most link.new) (K.read_faults link.new) (K.write_faults link.new)) }
         ensures link_rests { is_over self.old.state ≡ true → link.new ≡ link.old }
         ensures desk_rests { is_over self.old.state ≡ true → desk.new ≡ desk.old }
     {

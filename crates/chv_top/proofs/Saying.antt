@@ -3,14 +3,13 @@ use Rattle.std.proofs.Common.{◌≡◌, ◌≤◌, ◌<◌, ◌+◌, ◌++◌, 
 use Rattle.std.specs.Prelude.{IfErr, MatchResult}
 use Rattle.std.proofs.lemmas.List.{append-nil}
 use Rattle.std.proofs.lemmas.Bool.{le-ltb, lt-ltb}
-use Rattle.std.proofs.Math.Seq.{take-length}
 use Rattle.chv_defs_base.specs.declared.book.Full.{Full}
 use Rattle.chv_defs_api.specs.declared.shelf.OnShelf.{OnShelf}
 use Rattle.chv_defs_scene.specs.declared.scene.Scene.{Scene}
 use Rattle.chv_defs.specs.declared.trace.Trace.{Trace}
 use Rattle.chv_defs_api.specs.declared.context.StopCause.{StopCause}
-use Rattle.chv_io.specs.Outside.{Gains, GainsPart}
-use Rattle.chv_defs.specs.ProgramText.{full_line, read_fault_line, scene_fault_line, too_long_line}
+use Rattle.chv_io.specs.Outside.{GainsPart}
+use Rattle.chv_defs.specs.ProgramText.{read_fault_line, scene_fault_line, too_long_line}
 use Rattle.chv_defs_scene.specs.ScenarioText.{Fault, Sessions, read_scenario}
 use Rattle.chv_defs.specs.Schedule.{Stage, schedule, trace_at, trace_of}
 use Rattle.chv_defs.specs.TraceText.{trace_text}
@@ -18,7 +17,7 @@ use Rattle.chv_play.specs.Played.{Comes}
 use Rattle.chv_play.proofs.CallerLemmas.{scheduled_of_sessions}
 use Rattle.chv_scene.specs.Answer.{answer_of, scene_of}
 use Rattle.chv_top.specs.Outcome.{IsComplete, IsInput, IsRead, most_input, of_scenario, of_schedule, outcome_of, status_of, text_of, TooLong, Refused}
-use Rattle.chv_top.specs.Says.{IsPlain, IsScene, Reports, ReportsFull, ReportsTrace, Says, StopsBy, Tells}
+use Rattle.chv_top.specs.Says.{IsPlain, IsScene, Reports, ReportsTrace, Says, StopsBy, Tells}
 use Rattle.chv_control.specs.Shelf as control
 use Rattle.chv_scene.specs.declared.scenario.SceneFault.{SceneFault}
 use Rattle.chv_top.specs.Given.{as_given, handed_in}
@@ -29,12 +28,6 @@ use Rattle.chv_top.specs.declared.program.Stop.{Stop}
 use Rattle.chv_top.specs.declared.program.Stop.TheVariants as stop
 
 -- ---- what was written
-
--- all of a text is a first part of it
-pub all_is_part : (written written_after : Option (List ℕ)) (text : List ℕ) → Gains written written_after text → GainsPart written written_after text
-all_is_part None after text gains = gains
-all_is_part (Some before) None text gains = gains
-all_is_part (Some before) (Some after) text gains = (length text, omega arith, gains ∙ ap (λ t. before ++ t) (sym (take-length text)))
 
 -- nothing is a first part of a text
 pub none_is_part : (written written_after : Option (List ℕ)) (text : List ℕ) → written_after ≡ written → GainsPart written written_after text
@@ -75,20 +68,6 @@ reports_trace shelf given t w w' f f' result comes reports =
     (λ failed. subst P (sym failed.0) (failed.1, subst (λ (x : List ℕ). GainsPart w w' x) (sym owed) failed.2))
     wrote)
     (λ lost. subst P (sym lost.0) (subst (λ (x : List ℕ). GainsPart w w' x) (sym owed) lost.1))
-    reports
-
--- a status behind the line of a book that is full
-pub reports_full : (shelf : List OnShelf) (given : Result Trace Full) (full : Full) (w w' : Option (List ℕ)) (f f' : ℕ) (result : Status)
-    → given ≡ Err full → ReportsFull full w w' f f' result → Reports shelf given w w' f f' result
-reports_full shelf given full w w' f f' result comes reports =
-    let P : Status → Type 0 = λ s. Reports shelf given w w' f f' s in
-    let owed : text_of (of_schedule given) ≡ full_line full = ap (λ g. text_of (of_schedule g)) comes in
-    ⊎_elim
-    (λ wrote. ⊎_elim
-    (λ done. subst P (sym done.0) (comes, done.1))
-    (λ failed. subst P (sym failed.0) (failed.1, subst (λ (x : List ℕ). GainsPart w w' x) (sym owed) failed.2))
-    wrote)
-    (λ lost. subst P (sym lost.0) (none_is_part w w' (text_of (of_schedule given)) lost.1))
     reports
 
 -- ---- what was read
@@ -132,29 +111,47 @@ of_fault shelf text fault short scenario = of_short shelf text short ∙ ap (of_
 
 -- ---- what a run says
 
+-- What the outside tells: what the input has left and what was put into the output, each told or not, and the counts of their
+-- faults.
+pub record Outside : Type 0 where
+  pub left : Option (List ℕ)
+  pub reads : ℕ
+  pub put : Option (List ℕ)
+  pub writes : ℕ
+
+-- these together
+abbrev pub outside : Option (List ℕ) → ℕ → Option (List ℕ) → ℕ → Outside
+outside left reads put writes = record { left = left; reads = reads; put = put; writes = writes }
+
+-- what a status says of a run between these
+abbrev SaysBetween : List OnShelf → Outside → Outside → Status → Type 0
+SaysBetween shelf before after result =
+    Says shelf before.left after.left before.reads after.reads before.put after.put before.writes after.writes result
+
 -- a run that met why there is no scenario
-pub says_stop : (shelf : List OnShelf) (left left_after : Option (List ℕ)) (reads reads_after : ℕ) (w w' : Option (List ℕ)) (f f' : ℕ) (why : Stop) (result : Status)
-    → StopsBy left left_after reads reads_after why → Tells w w' f f' why result → Says shelf left left_after reads reads_after w w' f f' result
-says_stop shelf left left_after reads reads_after w w' f f' stop.Memory result by tells =
-    subst (λ (s : Status). Says shelf left left_after reads reads_after w w' f f' s) (sym tells.0) (inl tells.1)
-says_stop shelf left left_after reads reads_after w w' f f' stop.ReadFault result by tells =
-    let P : Status → Type 0 = λ s. Says shelf left left_after reads reads_after w w' f f' s in
+pub says_stop : (shelf : List OnShelf) (before after : Outside) (why : Stop) (result : Status)
+    → StopsBy before.left after.left before.reads after.reads why → Tells before.put after.put before.writes after.writes why result
+    → SaysBetween shelf before after result
+says_stop shelf before after stop.Memory result by tells =
+    subst (λ (s : Status). SaysBetween shelf before after s) (sym tells.0) (inl tells.1)
+says_stop shelf before after stop.ReadFault result by tells =
+    let P : Status → Type 0 = λ s. SaysBetween shelf before after s in
     ⊎_elim
     (λ done. subst P (sym done.0) (by, done.1))
     (λ failed. subst P (sym failed.0) (failed.1, (read_fault_line, inr (by, refl), failed.2)))
     tells
-says_stop shelf left left_after reads reads_after w w' f f' stop.TooLong result by tells =
-    let P : Status → Type 0 = λ s. Says shelf left left_after reads reads_after w w' f f' s in
+says_stop shelf before after stop.TooLong result by tells =
+    let P : Status → Type 0 = λ s. SaysBetween shelf before after s in
     ⊎_elim
-    (λ done. subst P (sym done.0) (refl, record { long = long_of left by.0 by.1 by.2; output = done.1 }))
+    (λ done. subst P (sym done.0) (refl, record { long = long_of before.left by.0 by.1 by.2; output = done.1 }))
     (λ failed. subst P (sym failed.0) (failed.1, (too_long_line, inl (by.0, by.1, sym (ap text_of (of_long shelf by.0 by.2))), failed.2)))
     tells
   where
     long_of : (o : Option (List ℕ)) (text : List ℕ) → IsInput o text → most_input < length text → IfSome o (λ input. most_input < length input)
     long_of None text is long = tt
     long_of (Some input) text is long = subst (λ (t : List ℕ). most_input < length t) (sym is) long
-says_stop shelf left left_after reads reads_after w w' f f' (stop.Scene fault) result by tells =
-    let P : Status → Type 0 = λ s. Says shelf left left_after reads reads_after w w' f f' s in
+says_stop shelf before after (stop.Scene fault) result by tells =
+    let P : Status → Type 0 = λ s. SaysBetween shelf before after s in
     let fault_is : Fault = record { line = fault.line; reason = fault.reason } in
     ⊎_elim
     (λ wrote. ⊎_elim
@@ -165,9 +162,11 @@ says_stop shelf left left_after reads reads_after w w' f f' (stop.Scene fault) r
     tells
 
 -- a run that played its scenario
-pub says_scene : (shelf : List OnShelf) (left left_after : Option (List ℕ)) (reads reads_after : ℕ) (w w' : Option (List ℕ)) (f f' : ℕ) (scene : Scene) (result : Status)
-    → IsScene left left_after scene → Reports shelf (schedule shelf scene.sessions) w w' f f' result → Says shelf left left_after reads reads_after w w' f f' result
-says_scene shelf left left_after reads reads_after w w' f f' scene status.Done is reports =
+pub says_scene : (shelf : List OnShelf) (before after : Outside) (scene : Scene) (result : Status)
+    → IsScene before.left after.left scene
+    → Reports shelf (schedule shelf scene.sessions) before.put after.put before.writes after.writes result
+    → SaysBetween shelf before after result
+says_scene shelf before after scene status.Done is reports =
     record {
       text = is.text;
       sessions = scene.sessions;
@@ -179,36 +178,41 @@ says_scene shelf left left_after reads reads_after w w' f f' scene status.Done i
       legal = reports.2;
       output = reports.3;
     }
-says_scene shelf left left_after reads reads_after w w' f f' scene (status.Full book entries bytes) is reports =
+says_scene shelf before after scene (status.Full book entries bytes) is reports =
     record { text = is.text; sessions = scene.sessions; read = is.read; scenario = is.scenario; fills = reports.0; output = reports.1 }
-says_scene shelf left left_after reads reads_after w w' f f' scene status.WriteFault is reports =
+says_scene shelf before after scene status.WriteFault is reports =
     (reports.0, (text_of (of_schedule (schedule shelf scene.sessions)), inl (is.text, is.read.whole, sym (ap text_of (of_sessions shelf is.text scene.sessions is.read.short is.scenario))), reports.1))
-says_scene shelf left left_after reads reads_after w w' f f' scene status.Memory is reports =
+says_scene shelf before after scene status.Memory is reports =
     inr (text_of (of_schedule (schedule shelf scene.sessions)), inl (is.text, is.read.whole, sym (ap text_of (of_sessions shelf is.text scene.sessions is.read.short is.scenario))), reports)
-says_scene shelf left left_after reads reads_after w w' f f' scene status.Usage is reports = absurd (reports)
-says_scene shelf left left_after reads reads_after w w' f f' scene (status.Scene line reason) is reports = absurd (reports)
-says_scene shelf left left_after reads reads_after w w' f f' scene status.ReadFault is reports = absurd (reports)
-says_scene shelf left left_after reads reads_after w w' f f' scene (status.TooLong bytes) is reports = absurd (reports)
+says_scene shelf before after scene status.Usage is reports = absurd (reports)
+says_scene shelf before after scene (status.Scene line reason) is reports = absurd (reports)
+says_scene shelf before after scene status.ReadFault is reports = absurd (reports)
+says_scene shelf before after scene (status.TooLong bytes) is reports = absurd (reports)
 
--- a run says what its input comes to, unless a count rose or there was no memory
-pub complete : (shelf : List OnShelf) (left left_after : Option (List ℕ)) (reads reads_after : ℕ) (w w' : Option (List ℕ)) (f f' : ℕ) (result : Status)
+complete_of : (shelf : List OnShelf) (left left_after : Option (List ℕ)) (reads reads_after : ℕ) (w w' : Option (List ℕ)) (f f' : ℕ) (result : Status)
     → Says shelf left left_after reads reads_after w w' f f' result → IsComplete shelf left reads reads_after f f' result
-complete shelf None left_after reads reads_after w w' f f' result says = tt
-complete shelf (Some input) left_after reads reads_after w w' f f' status.Done says = λ no_read no_write.
+complete_of shelf None left_after reads reads_after w w' f f' result says = tt
+complete_of shelf (Some input) left_after reads reads_after w w' f f' status.Done says = λ no_read no_write.
     let same : input ≡ says.text = says.read.whole in
     inl (sym (ap (λ t. status_of (outcome_of shelf t)) same ∙ ap status_of (of_sessions shelf says.text says.sessions says.read.short says.scenario ∙ ap of_schedule says.scheduled)))
-complete shelf (Some input) left_after reads reads_after w w' f f' (status.Full book entries bytes) says = λ no_read no_write.
+complete_of shelf (Some input) left_after reads reads_after w w' f f' (status.Full book entries bytes) says = λ no_read no_write.
     let same : input ≡ says.text = says.read.whole in
     inl (sym (ap (λ t. status_of (outcome_of shelf t)) same ∙ ap status_of (of_sessions shelf says.text says.sessions says.read.short says.scenario ∙ ap of_schedule says.fills)))
-complete shelf (Some input) left_after reads reads_after w w' f f' (status.Scene line reason) says = λ no_read no_write.
+complete_of shelf (Some input) left_after reads reads_after w w' f f' (status.Scene line reason) says = λ no_read no_write.
     let same : input ≡ says.text = says.read.whole in
     inl (sym (ap (λ t. status_of (outcome_of shelf t)) same ∙ ap status_of (of_fault shelf says.text (record { line = line; reason = reason }) says.read.short says.fault)))
-complete shelf (Some input) left_after reads reads_after w w' f f' (status.TooLong bytes) says = λ no_read no_write.
+complete_of shelf (Some input) left_after reads reads_after w w' f f' (status.TooLong bytes) says = λ no_read no_write.
     inl (ap (λ b. status.TooLong b) says.0 ∙ sym (ap status_of (of_long shelf input says.1.long)))
-complete shelf (Some input) left_after reads reads_after w w' f f' status.Memory says = λ no_read no_write. inr refl
-complete shelf (Some input) left_after reads reads_after w w' f f' status.Usage says = absurd (says)
-complete shelf (Some input) left_after reads reads_after w w' f f' status.ReadFault says = λ no_read no_write. absurd (no_read says.0)
-complete shelf (Some input) left_after reads reads_after w w' f f' status.WriteFault says = λ no_read no_write. absurd (no_write says.0)
+complete_of shelf (Some input) left_after reads reads_after w w' f f' status.Memory says = λ no_read no_write. inr refl
+complete_of shelf (Some input) left_after reads reads_after w w' f f' status.Usage says = absurd (says)
+complete_of shelf (Some input) left_after reads reads_after w w' f f' status.ReadFault says = λ no_read no_write. absurd (no_read says.0)
+complete_of shelf (Some input) left_after reads reads_after w w' f f' status.WriteFault says = λ no_read no_write. absurd (no_write says.0)
+
+-- a run says what its input comes to, unless a count rose or there was no memory
+pub complete : (shelf : List OnShelf) (before after : Outside) (result : Status) → SaysBetween shelf before after result
+    → IsComplete shelf before.left before.reads after.reads before.writes after.writes result
+complete shelf before after result says =
+    complete_of shelf before.left after.left before.reads after.reads before.put after.put before.writes after.writes result says
 
 -- ---- disks
 
