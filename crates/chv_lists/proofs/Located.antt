@@ -1,5 +1,5 @@
 -- What is located in a list of stretches.
-use Rattle.std.proofs.Common.{◌≡◌, ℕ, ◌+◌, ◌<◌, ◌≤◌, Bool, true, false, List, [], ◌∷◌, Result, Ok, Err, Option, None, Some, refl, sym, ◌∙◌, ap, arith, suc, length}
+use Rattle.std.proofs.Common.{◌≡◌, ℕ, ◌+◌, ◌<◌, ◌≤◌, Bool, true, false, List, [], ◌∷◌, Result, Ok, Err, Option, None, Some, refl, sym, ◌∙◌, ap, arith, suc}
 use Rattle.std.specs.Prelude.{cond, ◌&&◌, nat_le, nat_lt, slice_get, find, if◌then◌else◌, MatchResult}
 use Rattle.std.specs.List.{prefix_len}
 use Rattle.std.specs.Option.{option_map_or}

@@ -6,6 +6,7 @@ use Rattle.chv_lists.proofs.Located.{locate-cases}
 use Rattle.chv_pages.proofs.Search.{located}
 use Rattle.chv_pages.proofs.Places.{one_address}
 use Rattle.std.proofs.lemmas.Bool.Decides.{nat_tests}
+use Rattle.std.proofs.lemmas.Bool.{or_parts}
 use Rattle.chv_defs_memory.specs.PageContents.{is_blank}
 use Rattle.chv_pages.specs.declared.held.Held.{Held}
 use Rattle.chv_pages.specs.HeldPages.{has_number, held_at, is_address, put, shown, visible, AreHeld, MakesRoom}
@@ -91,15 +92,11 @@ put-keeps low high (h ∷ hs) number page from to len a =
         let after : number + 1 ≤ h.number = grind (arith, nat_tests) in
         (from, to, len, (after, a.1, a.2, a.3))
 
-not_or : (a b : Bool) → (a || b) ≡ false → (a ≡ false) × (b ≡ false)
-not_or true b h = cc
-not_or false b h = (refl, h)
-
 -- a page of zeros is not shown
 pub put-visible : (held : List Held) (number : ℕ) (page : List ℕ) → is_blank page ≡ true → has_number held number ≡ false → visible (put held number page) ≡ visible held
 put-visible [] number page blank none = ap (λ b. cons_option (cond b None (Some (record { block = number / 512; page = number % 512; bytes = page }))) []) blank
 put-visible (h ∷ hs) number page blank none =
-    by (nat_lt h.number number) (h.number == number) refl (not_or (h.number == number) (has_number hs number) none).0 (put-visible hs number page blank (not_or (h.number == number) (has_number hs number) none).1)
+    by (nat_lt h.number number) (h.number == number) refl (or_parts (h.number == number) (has_number hs number) none).0 (put-visible hs number page blank (or_parts (h.number == number) (has_number hs number) none).1)
   where
     by : (b e : Bool) → (h.number == number) ≡ e → (h.number == number) ≡ false → visible (put hs number page) ≡ visible hs →
         visible (cond b (h ∷ put hs number page) (cond e (record { number = number; page = page } ∷ hs) (record { number = number; page = page } ∷ h ∷ hs))) ≡ visible (h ∷ hs)

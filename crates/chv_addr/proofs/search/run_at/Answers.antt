@@ -1,6 +1,5 @@
 -- crates/chv_addr/proofs/search/run_at/Answers.antt
-use Rattle.std.proofs.Common.{◌≡◌, ◌∙◌, ◌+◌, refl, sym, ap, length, Ok, Err, Some, List}
-use Rattle.std.specs.Prelude.{slice_get}
+use Rattle.std.proofs.Common.{◌∙◌, ◌+◌, sym, ap, List}
 use Rattle.std.proofs.lemmas.Option.{slice_get-get_or}
 use Rattle.chv_addr.specs.AddressMap.{run_bytes}
 use Rattle.chv_addr.specs.declared.run.Run.{Run}

@@ -1,5 +1,5 @@
 -- crates/chv_lists/proofs/search/locate/Answers.antt
-use Rattle.std.proofs.Common.{◌≡◌, ◌∙◌, ◌<◌, ◌≤◌, refl, sym, ap, arith, true, false, length, Some, None}
+use Rattle.std.proofs.Common.{◌≡◌, ◌∙◌, refl, sym, ap, arith, true, false, length, Some, None}
 use Rattle.std.specs.Prelude.{nat_le, nat_lt, slice_get, is_some}
 use Rattle.std.proofs.lemmas.Bool.Decides.{nat_tests}
 use Rattle.std.proofs.lemmas.List.Sums.{prefix_len-le-length}
