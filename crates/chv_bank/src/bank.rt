@@ -279,6 +279,14 @@ impl Bank {
         self.reserved
     }
 
+    /// The number of its zone, and its own there.
+    pub fn number(&self) -> (u8, u8)
+        ensures zone { result.0 ≡ self.now.zone }
+        ensures bank { result.1 ≡ self.now.bank }
+    {
+        (self.zone, self.bank)
+    }
+
     /// The history, which is legal.
     pub fn history(&self) -> &[BankEntry]
         ensures value { result.now ≡ self.now.history }

@@ -1,19 +1,15 @@
 //! Answers cases: a line of standard input names a public call and what it is given, and behind it stands what the call
-//! answers. Blank lines, and lines whose first word is `#`, are written as they are.
+//! answers. Blank lines, and lines whose first word is `#`, are written as they are. `traces` and `plays` answer the cases of
+//! `chv_trace` and `chv_top`; all others are answered by `chv_tests_answers`, whose head names the crates.
 #![tactic(auto)]
 
-mod answers;
-mod calls;
-mod configs;
-mod escapes;
-mod json;
 mod kinds;
-mod numbers;
-mod replies;
-mod scenes;
-mod streams;
-mod words;
+mod lines;
+mod plays;
+mod trace_banks;
+mod traces;
 
+use chv_tests_answers::cut;
 use std::io;
 
 fn main(rt: HostRuntime) -> io::Result<()> {
@@ -26,7 +22,7 @@ fn main(rt: HostRuntime) -> io::Result<()> {
 // Writes a line, and the answer where it is a case.
 fn write_line(rt: &(impl Print + AllocGlobal), line: &str) -> io::Result<()> {
     println!(rt; "{line}")?;
-    let (kind, words) = words::cut(line, ' ');
+    let (kind, words) = cut(line, ' ');
     if kind == "" || kind == "#" {
         return Ok(());
     }

@@ -33,6 +33,7 @@ at_most a b e = grind (arith, nat_tests)
 stopped_after : (m : Machine) (caller : ℕ) (c : ControlCall) (r : ControlReply) → is_stop c ≡ false → (after m caller c r).stopped ≡ m.stopped
 stopped_after m caller call.Stop r other = cc
 stopped_after m caller (call.Create config) reply.Done other = refl
+stopped_after m caller call.Boot reply.Done other = refl
 stopped_after m caller (call.Begin Shutdown) reply.Done other = refl
 stopped_after m caller (call.Begin Delete) reply.Done other = refl
 stopped_after m caller (call.AddDisk disk) reply.Done other = refl

@@ -1,4 +1,3 @@
-pub mod Fits
 pub mod Kept
 pub mod Refusals
 pub mod Settled

@@ -14,6 +14,7 @@ use Rattle.chv_defs_control.specs.LegalControl.{Leads, is_accepting, is_accepted
 
 after-Ruled : (m : Machine) (caller : ℕ) (c : ControlCall) (r : ControlReply) → is_accepting r ≡ false → after m caller c r ≡ m
 after-Ruled m caller (call.Create config) reply.Done h = cc
+after-Ruled m caller call.Boot reply.Done h = cc
 after-Ruled m caller (call.Begin Shutdown) reply.Done h = cc
 after-Ruled m caller (call.Begin Delete) reply.Done h = cc
 after-Ruled m caller (call.AddDisk disk) reply.Done h = cc

@@ -7,7 +7,6 @@ use Rattle.chv_defs_base.specs.declared.rule.Rule.{Rule}
 use Rattle.chv_defs_api.specs.declared.control.ControlCall.{ControlCall}
 use Rattle.chv_defs_api.specs.declared.control.ControlCall.TheVariants as call
 use Rattle.chv_defs_api.specs.declared.control.ControlReply.{ControlReply}
-use Rattle.chv_defs_api.specs.declared.control.ControlReply.TheVariants as reply
 use Rattle.chv_defs_api.specs.declared.control.ControlEntry.{ControlEntry}
 use Rattle.chv_defs_control.specs.ApiStep.{refusal_of, refused_or, success_of}
 use Rattle.chv_defs_api.specs.Desks.{Answer, is_held, is_holding}

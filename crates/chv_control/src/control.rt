@@ -14,10 +14,10 @@ ghost use Rattle.chv_defs_control.specs.LegalControl.{IsLegal, answers_by};
 use crate::book::full_at;
 use crate::entries::{make_room, put_entry};
 use crate::inner::Inner;
-use crate::made::{leave, make};
+use crate::made::make;
 use crate::shelf::shelf_of;
 use crate::start::Start;
-use chv_ctl_api::show;
+use chv_ctl_api::{api_commit, show};
 use chv_defs_api::{ControlCall, ControlEntry, ControlReply, Info, OnShelf};
 use chv_defs_base::{Name, Row};
 use chv_defs_control::{Life, Machine};
@@ -161,7 +161,7 @@ impl<D: Disk> Control<D> {
             drop(made);
             return Ok(Err(Inner::Full(full)));
         }
-        let made = leave(self.alloc, &mut self.machine, &self.shelf, made)?;
+        api_commit(&mut self.machine, made.change);
         self.bytes += made.added;
         put_entry(&mut self.history, made.entry);
         Ok(Ok(made.reply))

@@ -1,25 +1,27 @@
-// An entry is made, and what its call leaves.
-ghost use Rattle.std.specs.Prelude.{◌≡◌, true, IfOk, OnOk, OnErr};
+// An entry is made of a call that was decided.
+ghost use Rattle.std.specs.Prelude.{◌≡◌, true, IfOk};
 ghost use Rattle.chv_defs_api.specs.Desks.{can_have, is_session_call};
 ghost use Rattle.chv_defs_control.specs.Machine.{IsWellFormed};
 ghost use Rattle.chv_defs_control.specs.ApiStep.{after, reply_to};
 ghost use Rattle.chv_defs_control.specs.ControlBook.{entry_payload};
-ghost use Rattle.chv_ctl_api.specs.ApiCalls.{IsApiCall};
+ghost use Rattle.chv_defs_control.specs.ControlStep.{MayCall};
+ghost use Rattle.chv_ctl_api.specs.Changed.{changed};
 ghost use Rattle.chv_control.specs.Control.{entry_of};
 
 use crate::book::payload_of;
-use chv_ctl_api::{api_leave, api_reply};
+use chv_ctl_api::{Change, api_decide};
 use chv_defs_api::{ControlCall, ControlEntry, ControlReply, OnShelf};
 use chv_defs_base::{Row, beside, copy_of};
 use chv_defs_control::Machine;
 use std::alloc::{AllocError, Global};
 
-/// An entry that is not entered yet, its reply once more, and its payload in bytes.
+/// An entry that is not entered yet, its reply once more, its payload in bytes, and what its call changes.
 #[derive(Drop)]
 pub struct Made {
     pub entry: ControlEntry,
     pub reply: ControlReply,
     pub added: u64,
+    pub change: Change,
 }
 
 /// The entry of a call that is answered so.
@@ -35,7 +37,7 @@ fn entry(caller: u32, call: &ControlCall, reply: &ControlReply) -> Result<Contro
     })
 }
 
-/// The entry of a call, answered by its rules.
+/// The entry of a call, answered by its rules, and what the call changes. Nothing is changed yet.
 pub fn make(
     alloc: Global,
     machine: &Machine,
@@ -44,55 +46,20 @@ pub fn make(
     call: &ControlCall,
 ) -> Result<Made, AllocError>
     requires formed { IsWellFormed machine.now }
-    requires call { IsApiCall call.now }
+    requires may { MayCall machine.now caller call.now }
     ensures entry { IfOk result (λ made. made.entry ≡ entry_of shelf.now machine.now caller call.now) }
     ensures reply { IfOk result (λ made. made.reply ≡ reply_to shelf.now machine.now call.now) }
     ensures added { IfOk result (λ made. made.added ≡ entry_payload made.entry) }
+    ensures change { IfOk result (λ made. changed machine.now made.change ≡ after machine.now caller call.now made.reply) }
     ensures fits { is_session_call call.now ≡ true → IfOk result (λ made. can_have call.now made.reply ≡ true) }
 {
-    let reply = api_reply(alloc, machine, shelf, call)?;
-    let (added, reply) = beside(payload_of(alloc, call, &reply), reply)?;
-    let (entry, reply) = beside(entry(caller, call, &reply), reply)?;
+    let decided = api_decide(alloc, machine, caller, shelf, call)?;
+    let (added, decided) = beside(payload_of(alloc, call, &decided.reply), decided)?;
+    let (entry, decided) = beside(entry(caller, call, &decided.reply), decided)?;
     Ok(Made {
         entry,
-        reply,
+        reply: decided.reply,
         added,
+        change: decided.change,
     })
-}
-
-/// Leaves the machine as after the entry, which comes back. An `Err` leaves it as it was.
-pub fn leave(
-    alloc: Global,
-    machine: &mut Machine,
-    shelf: &Row<OnShelf>,
-    made: Made,
-) -> Result<Made, AllocError>
-    requires { made.entry.reply ≡ reply_to shelf.now machine.old made.entry.call }
-    ensures back { IfOk result (λ back. back ≡ made) }
-    ensures ok { OnOk result (machine.new ≡ after machine.old made.entry.caller made.entry.call made.entry.reply) }
-    ensures err { OnErr result (machine.new ≡ machine.old) }
-{
-    let left = leave_entry(alloc, machine, shelf, &made.entry);
-    let ((), made) = beside(left, made)?;
-    Ok(made)
-}
-
-fn leave_entry(
-    alloc: Global,
-    machine: &mut Machine,
-    shelf: &Row<OnShelf>,
-    entry: &ControlEntry,
-) -> Result<(), AllocError>
-    requires { entry.now.reply ≡ reply_to shelf.now machine.old entry.now.call }
-    ensures ok { OnOk result (machine.new ≡ after machine.old entry.now.caller entry.now.call entry.now.reply) }
-    ensures err { OnErr result (machine.new ≡ machine.old) }
-{
-    api_leave(
-        alloc,
-        machine,
-        entry.caller,
-        shelf,
-        &entry.call,
-        &entry.reply,
-    )
 }

@@ -21,7 +21,7 @@ use Rattle.chv_defs_api.specs.declared.control.ControlCall.TheVariants as call
 use Rattle.chv_defs_api.specs.declared.control.ControlReply.{ControlReply}
 use Rattle.chv_defs_api.specs.declared.control.ControlReply.TheVariants as reply
 use Rattle.chv_defs_control.specs.Machine.{AreSessionsAbove, HasChecked, IsWellFormed, RunsBare}
-use Rattle.chv_defs_control.specs.ApiStep.{after, has_full_slots, has_id, is_booted, is_uncreated, names_of, now_of, refusal_of, reply_to, rules_of, with_new_disk, with_number, without_disk}
+use Rattle.chv_defs_control.specs.ApiStep.{after, device_count, has_devices, has_full_slots, has_id, is_booted, is_uncreated, names_of, now_of, refusal_of, reply_to, rules_of, with_new_disk, with_number, without_disk}
 use Rattle.chv_defs_control.specs.ControlStep.{MayCall}
 use Rattle.chv_defs_api.specs.ConfigRules.{IsChecked, checked_of, config_rules, first_broken, further_disk_rules, has_zones, own_zone, zones_in_effect, verdict}
 use Rattle.chv_defs_api.specs.DefaultConfig.{default_config}
@@ -162,6 +162,14 @@ bare_without (life.Hold holder goal) config other id some bare = tt
 bare_without life.Paused config other id some bare = tt
 bare_without life.Shutdown config other id some bare = tt
 
+-- a machine that boots has no device
+bare_booted : (config : Option Checked) (other : Checked) → has_devices (unwrap_or config other) ≡ false → RunsBare life.Running config
+bare_booted None other none = tt
+bare_booted (Some now) other none = nothing (device_count now) none
+  where
+    nothing : (n : ℕ) → nat_lt 0 n ≡ false → n ≡ 0
+    nothing n e = grind (arith, nat_tests)
+
 -- a machine that is there is not None's
 some_config : (m : Machine) → is_uncreated m ≡ false → m.config ≡ None → ⊥
 some_config m some none = let h : not (is_some {T = Checked} None) ≡ false = subst (λ (c : Option Checked). not (is_some c) ≡ false) none some in cc
@@ -176,6 +184,13 @@ kept shelf m caller (call.Create config) reply.Done e formed may = record {
   unpaused = tt;
   bare = tt;
   checked = IsChecked-checked_of (names_of shelf) config (behind_created (is_some m.config) (verdict (names_of shelf) config) (none-from_done (refusal_of shelf m (call.Create config)) e));
+  sessions = formed.sessions;
+}
+kept shelf m caller call.Boot reply.Done e formed may = record {
+  life_and_config = (λ x. absurd (cc), λ x. absurd (some_config m ((none-broken (rules_of shelf m call.Boot) (none-from_done (refusal_of shelf m call.Boot) e)).0) x));
+  unpaused = tt;
+  bare = bare_booted m.config (checked_of default_config) (none-broken (rules_of shelf m call.Boot) (none-from_done (refusal_of shelf m call.Boot) e)).1.1.1.0;
+  checked = formed.checked;
   sessions = formed.sessions;
 }
 kept shelf m caller (call.Begin Delete) reply.Done e formed may = record {

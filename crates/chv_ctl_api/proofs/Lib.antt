@@ -1,6 +1,5 @@
 pub mod Verdicts
 pub mod Kept
 pub mod Ids
-pub mod WithNumber
 pub mod Fits
 pub mod Numbers

@@ -1,2 +1,3 @@
 pub mod ApiCalls
+pub mod Changed
 pub mod Laws

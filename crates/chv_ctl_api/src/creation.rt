@@ -1,70 +1,46 @@
-// A machine is created, and deleted.
-ghost use Rattle.std.specs.Prelude.{◌≡◌, None, Some, IfOk, OnOk, OnErr};
-ghost use Rattle.chv_defs_control.specs.declared.machine.Life.TheVariants as life;
+// A machine is created.
+ghost use Rattle.std.specs.Prelude.{◌≡◌, ℕ, IfOk};
 ghost use Rattle.chv_defs_api.specs.declared.control.ControlCall.TheVariants.{Create};
-ghost use Rattle.chv_defs_api.specs.declared.control.ControlReply.TheVariants.{Done};
-ghost use Rattle.chv_defs_control.specs.ApiStep.{names_of, refused_or, reply_to};
+ghost use Rattle.chv_defs_control.specs.ApiStep.{after, names_of, reply_to};
 ghost use Rattle.chv_defs_api.specs.ConfigRules.{checked_of, verdict};
+ghost use Rattle.chv_ctl_api.specs.declared.decided.Change.TheVariants as change;
+ghost use Rattle.chv_ctl_api.specs.Changed.{changed, done_unless};
 
-use crate::life::done_unless;
+use crate::decided::{Change, Decided, done, refused};
 use crate::shelf::names_of;
 use chv_config::check;
-use chv_defs_api::{ControlReply, OnShelf, VmConfig};
+use chv_defs_api::{OnShelf, VmConfig};
 use chv_defs_base::{Row, Rule};
-use chv_defs_control::{Life, Machine};
+use chv_defs_control::Machine;
 use std::alloc::{AllocError, Global};
 
-/// The answer to a Create.
-pub fn answer_create(
+/// What a Create comes to.
+pub fn decide_create(
     alloc: Global,
     machine: &Machine,
     shelf: &Row<OnShelf>,
     config: &VmConfig,
-) -> Result<ControlReply, AllocError>
-    ensures { IfOk result (λ reply. reply ≡ reply_to shelf.now machine.now (Create config.now)) }
+) -> Result<Decided, AllocError>
+    ensures reply { IfOk result (λ decided. decided.reply ≡ reply_to shelf.now machine.now (Create config.now)) }
+    ensures change { IfOk result (λ decided. (caller : ℕ) → changed machine.now decided.change ≡ after machine.now caller (Create config.now) decided.reply) }
 {
     match &machine.config {
-        Some(_) => Ok(ControlReply::Ruled(Rule::AlreadyCreated)),
-        None => answer_config(alloc, shelf, config),
+        Some(_) => Ok(refused(Rule::AlreadyCreated)),
+        None => decide_config(alloc, shelf, config),
     }
 }
 
-// The answer to a configuration, where there is no machine.
-fn answer_config(
+// What a Create of this configuration comes to, where there is no machine.
+fn decide_config(
     alloc: Global,
     shelf: &Row<OnShelf>,
     config: &VmConfig,
-) -> Result<ControlReply, AllocError>
-    ensures { IfOk result (λ reply. reply ≡ refused_or (verdict (names_of shelf.now) config.now) Done) }
+) -> Result<Decided, AllocError>
+    ensures { IfOk result (λ decided. decided ≡ done_unless (verdict (names_of shelf.now) config.now) (change.Created (checked_of config.now))) }
 {
     let names = names_of(alloc, shelf)?;
-    Ok(done_unless(check(alloc, config, &names)?.err()))
-}
-
-/// Makes a machine of a configuration that keeps the rules. An `Err` leaves the state as it was.
-pub fn create(
-    alloc: Global,
-    machine: &mut Machine,
-    shelf: &Row<OnShelf>,
-    config: &VmConfig,
-) -> Result<(), AllocError>
-    requires { verdict (names_of shelf.now) config.now ≡ None }
-    ensures ok { OnOk result (machine.new ≡ record machine.old { life = life.Created; config = Some (checked_of config.now) }) }
-    ensures err { OnErr result (machine.new ≡ machine.old) }
-{
-    let names = names_of(alloc, shelf)?;
-    let Ok(checked) = check(alloc, config, &names)? else {
-        unreachable!()
-    };
-    machine.life = Life::Created;
-    machine.config = Some(checked);
-    Ok(())
-}
-
-/// Drops the machine.
-pub fn delete(machine: &mut Machine)
-    ensures { machine.new ≡ record machine.old { life = life.None; config = None } }
-{
-    machine.life = Life::None;
-    machine.config = None;
+    match check(alloc, config, &names)? {
+        Ok(checked) => Ok(done(Change::Created(checked))),
+        Err(rule) => Ok(refused(rule)),
+    }
 }

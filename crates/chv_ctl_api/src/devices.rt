@@ -1,49 +1,78 @@
 // Disks are added to a machine and removed from it; so far only one that is not booted has any.
-ghost use Rattle.std.specs.Prelude.{◌≡◌, ◌≢◌, [], ◌∷◌, filter, if◌then◌else◌, length, not, List, None, Some, IfOk, OnOk, OnErr};
+ghost use Rattle.std.specs.Prelude.{◌≡◌, [], ◌∷◌, filter, length, not, ℕ, List, IfOk};
 ghost use Rattle.std.specs.Str.{bytes_eq};
 ghost use Rattle.chv_defs_api.specs.declared.control.ControlCall.TheVariants.{AddDisk, Remove};
-ghost use Rattle.chv_defs_base.specs.declared.rule.Rule.TheVariants.{NotBuilt, SlotsFull};
 ghost use Rattle.chv_defs_api.specs.declared.shelf.OnShelf.{OnShelf};
-ghost use Rattle.chv_defs_control.specs.ApiStep.{has_full_slots, has_id, is_booted, names_of, now_of, refusal_of, reply_to, with_new_disk, without_disk};
+ghost use Rattle.chv_defs_control.specs.ApiStep.{after, has_devices, has_full_slots, has_id, is_booted, names_of, reply_to, with_new_disk, without_disk};
 ghost use Rattle.chv_defs_api.specs.ConfigRules.{given_ids, grows, has_text, memory_device_id, memory_device_ids, with_disk};
+ghost use Rattle.chv_ctl_api.specs.declared.decided.Change.TheVariants as change;
+ghost use Rattle.chv_ctl_api.specs.ApiCalls.{disk_rule, place_rule};
+ghost use Rattle.chv_ctl_api.specs.Changed.{changed, done_unless};
 
-use crate::life::done_unless;
+use crate::decided::{Change, Decided, done, refused};
 use crate::shelf::names_of;
 use chv_config::check_disk;
-use chv_defs_api::{Checked, ControlReply, DiskConfig, OnShelf, ZoneConfig};
-use chv_defs_base::{Row, Rule, SLOTS, Text};
+use chv_defs_api::{Checked, DiskConfig, OnShelf, ZoneConfig};
+use chv_defs_base::{Row, Rule, SLOTS, Text, beside, copy_of};
 use chv_defs_control::{Life, Machine};
 use std::alloc::{AllocError, Global};
 use std::mem;
 
-/// The answer to an AddDisk.
-pub fn answer_add_disk(
+/// What an AddDisk comes to.
+pub fn decide_add_disk(
     alloc: Global,
     machine: &Machine,
     shelf: &Row<OnShelf>,
     disk: &DiskConfig,
-) -> Result<ControlReply, AllocError>
-    ensures { IfOk result (λ reply. reply ≡ reply_to shelf.now machine.now (AddDisk disk.now)) }
+) -> Result<Decided, AllocError>
+    ensures reply { IfOk result (λ decided. decided.reply ≡ reply_to shelf.now machine.now (AddDisk disk.now)) }
+    ensures change { IfOk result (λ decided. (caller : ℕ) → changed machine.now decided.change ≡ after machine.now caller (AddDisk disk.now) decided.reply) }
 {
-    let Some(checked) = &machine.config else {
-        return Ok(ControlReply::Ruled(Rule::NotCreated));
-    };
-    let names = names_of(alloc, shelf)?;
-    let broken = check_disk(alloc, checked, disk, &names)?.err();
-    Ok(done_unless(broken.or(place_rule(has_full_slots(checked), is_booted(machine.life)))))
+    match &machine.config {
+        Some(checked) => decide_disk(alloc, shelf, checked, machine.life, disk),
+        None => Ok(refused(Rule::NotCreated)),
+    }
 }
 
-// The rule by which no place is left for a disk: the slots are full, or else the machine is booted.
-fn place_rule(full: bool, booted: bool) -> Option<Rule>
-    ensures { result ≡ (if full then Some SlotsFull else (if booted then Some NotBuilt else None)) }
+// What an AddDisk comes to, where there is a machine.
+fn decide_disk(
+    alloc: Global,
+    shelf: &Row<OnShelf>,
+    checked: &Checked,
+    life: Life,
+    disk: &DiskConfig,
+) -> Result<Decided, AllocError>
+    ensures { IfOk result (λ decided. decided
+        ≡ done_unless (disk_rule (names_of shelf.now) checked.now life disk.now) (change.Reconfigured (with_new_disk checked.now disk.now))) }
 {
-    if full {
-        Some(Rule::SlotsFull)
-    } else if booted {
-        Some(Rule::NotBuilt)
-    } else {
-        None
+    let names = names_of(alloc, shelf)?;
+    match check_disk(alloc, checked, disk, &names)? {
+        Ok(named) => place_disk(checked, life, named),
+        Err(rule) => Ok(refused(rule)),
     }
+}
+
+// What the adding of a disk comes to that breaks no rule on disks, and has its id.
+fn place_disk(checked: &Checked, life: Life, disk: DiskConfig) -> Result<Decided, AllocError>
+    ensures { IfOk result (λ decided. decided ≡ done_unless (place_rule checked.now life) (change.Reconfigured (with_disk checked.now disk))) }
+{
+    match place_rule(checked, life) {
+        None => Ok(done(Change::Reconfigured(with_disk(checked, disk)?))),
+        Some(rule) => Ok(refused(rule)),
+    }
+}
+
+// The rule by which no place is left for a further disk: all slots are used, or else the machine is booted.
+fn place_rule(checked: &Checked, life: Life) -> Option<Rule>
+    ensures { result ≡ place_rule checked.now life }
+{
+    if has_full_slots(checked) {
+        return Some(Rule::SlotsFull);
+    }
+    if is_booted(life) {
+        return Some(Rule::NotBuilt);
+    }
+    None
 }
 
 // Whether the machine is booted.
@@ -61,26 +90,34 @@ fn has_full_slots(checked: &Checked) -> bool
     SLOTS <= growing || SLOTS - growing <= checked.config.disks.len()
 }
 
+/// Whether a configuration has a device.
+pub fn has_devices(checked: &Checked) -> bool
+    ensures { result ≡ has_devices checked.now }
+{
+    count_growing(checked.zones.as_slice()) > 0 || !checked.config.disks.is_empty()
+}
+
 fn count_growing(zones: &[ZoneConfig]) -> usize
     ensures { result ≡ length (filter grows zones.now) }
 {
     zones.iter().filter(|zone| zone.hotplug > 0).count()
 }
 
-/// The answer to a Remove.
-pub fn answer_remove(machine: &Machine, id: &Text) -> ControlReply
-    ensures { (shelf : List OnShelf) → result ≡ reply_to shelf machine.now (Remove id.now) }
+/// What a Remove comes to.
+pub fn decide_remove(alloc: Global, machine: &Machine, id: &Text) -> Result<Decided, AllocError>
+    ensures reply { IfOk result (λ decided. (shelf : List OnShelf) → decided.reply ≡ reply_to shelf machine.now (Remove id.now)) }
+    ensures change { IfOk result (λ decided. (caller : ℕ) → changed machine.now decided.change ≡ after machine.now caller (Remove id.now) decided.reply) }
 {
     let Some(checked) = &machine.config else {
-        return ControlReply::Ruled(Rule::NotCreated);
+        return Ok(refused(Rule::NotCreated));
     };
     if has_memory_device(checked.zones.as_slice(), id) {
-        return ControlReply::Ruled(Rule::DeviceFixed);
+        return Ok(refused(Rule::DeviceFixed));
     }
-    if has_disk(checked.config.disks.as_slice(), id) {
-        return ControlReply::Done;
+    if !has_disk(checked.config.disks.as_slice(), id) {
+        return Ok(refused(Rule::DeviceUnknown));
     }
-    ControlReply::Ruled(Rule::DeviceUnknown)
+    Ok(done(Change::Reconfigured(without_disk(alloc, checked, id)?)))
 }
 
 // Whether the memory device of a zone has this id.
@@ -117,49 +154,31 @@ fn is_given(disk: &DiskConfig, id: &Text) -> bool
     }
 }
 
-/// Adds a disk behind the others, its id set. An `Err` leaves the state as it was.
-pub fn add_disk(
-    alloc: Global,
-    machine: &mut Machine,
-    shelf: &Row<OnShelf>,
-    disk: &DiskConfig,
-) -> Result<(), AllocError>
-    requires { refusal_of shelf.now machine.old (AddDisk disk.now) ≡ None }
-    ensures ok { OnOk result (machine.new ≡ record machine.old { config = Some (with_new_disk (now_of machine.old) disk.now) }) }
-    ensures err { OnErr result (machine.new ≡ machine.old) }
+/// A copy of a configuration.
+pub fn copied(checked: &Checked) -> Result<Checked, AllocError>
+    ensures { IfOk result (λ copy. copy ≡ checked.now) }
 {
-    let names = names_of(alloc, shelf)?;
-    let Some(checked) = &mut machine.config else {
-        unreachable!()
-    };
-    let Ok(named) = check_disk(alloc, checked, disk, &names)? else {
-        unreachable!()
-    };
-    push_disk(checked, named)
+    let zones = copy_of(&checked.zones)?;
+    let (config, zones) = beside(copy_of(&checked.config), zones)?;
+    Ok(Checked { config, zones })
 }
 
-fn push_disk(checked: &mut Checked, disk: DiskConfig) -> Result<(), AllocError>
-    ensures ok { OnOk result (checked.new ≡ with_disk checked.old disk) }
-    ensures err { OnErr result (checked.new ≡ checked.old) }
+// A configuration with one disk more.
+fn with_disk(checked: &Checked, disk: DiskConfig) -> Result<Checked, AllocError>
+    ensures { IfOk result (λ more. more ≡ with_disk checked.now disk) }
 {
-    checked.config.disks.push(disk)
+    let (mut more, disk) = beside(copied(checked), disk)?;
+    more.config.disks.push(disk)?;
+    Ok(more)
 }
 
-/// Removes the disk of this id. Takes no memory.
-pub fn remove_disk(alloc: Global, machine: &mut Machine, id: &Text)
-    requires { machine.old.config ≢ None }
-    ensures { machine.new ≡ record machine.old { config = Some (without_disk (now_of machine.old) id.now) } }
+// A configuration without the disk of this id.
+fn without_disk(alloc: Global, checked: &Checked, id: &Text) -> Result<Checked, AllocError>
+    ensures { IfOk result (λ fewer. fewer ≡ without_disk checked.now id.now) }
 {
-    match &mut machine.config {
-        Some(checked) => drop_disk(alloc, checked, id),
-        None => unreachable!(),
-    }
-}
-
-fn drop_disk(alloc: Global, checked: &mut Checked, id: &Text)
-    ensures { checked.new ≡ without_disk checked.old id.now }
-{
-    keep_others(alloc, &mut checked.config.disks, id);
+    let mut fewer = copied(checked)?;
+    keep_others(alloc, &mut fewer.config.disks, id);
+    Ok(fewer)
 }
 
 // Keeps the disks of other ids.

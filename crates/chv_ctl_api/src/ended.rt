@@ -1,12 +1,26 @@
 // The list of the sessions that have ended.
-ghost use Rattle.std.specs.Prelude.{◌≡◌, ◌≤◌, insert, length, OnOk, OnErr, MatchOption};
-ghost use Rattle.chv_defs_control.specs.ApiStep.{with_number};
+ghost use Rattle.std.specs.Prelude.{◌≡◌, ◌≤◌, insert, length, IfOk, OnOk, OnErr, MatchOption};
+ghost use Rattle.chv_defs_control.specs.ApiStep.{after, with_number};
+ghost use Rattle.chv_defs_api.specs.declared.control.ControlCall.TheVariants.{Bye};
+ghost use Rattle.chv_defs_api.specs.declared.control.ControlReply.TheVariants.{Done};
+ghost use Rattle.chv_ctl_api.specs.Changed.{changed};
 
-use chv_defs_base::Row;
+use crate::decided::Change;
+use chv_defs_base::{Row, copy_of};
+use chv_defs_control::Machine;
 use std::alloc::AllocError;
 
-/// Adds a session to those that have ended, which ascend. An `Err` leaves them as they were.
-pub fn end_session(ended: &mut Row<u32>, caller: u32) -> Result<(), AllocError>
+/// What the Bye of a session changes.
+pub fn ended_by(machine: &Machine, caller: u32) -> Result<Change, AllocError>
+    ensures { IfOk result (λ change. changed machine.now change ≡ after machine.now caller Bye Done) }
+{
+    let mut ended = copy_of(&machine.ended)?;
+    end_session(&mut ended, caller)?;
+    Ok(Change::Ended(ended))
+}
+
+// Adds a session to those that have ended, which ascend. An `Err` leaves them as they were.
+fn end_session(ended: &mut Row<u32>, caller: u32) -> Result<(), AllocError>
     ensures ok { OnOk result (ended.new ≡ with_number caller ended.old) }
     ensures err { OnErr result (ended.new ≡ ended.old) }
 {

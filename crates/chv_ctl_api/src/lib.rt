@@ -1,7 +1,9 @@
 //! The calls of the API on a machine that is not booted, or runs and has no device: what each is answered, and what it leaves.
+//! A call is decided first, which may want memory and changes nothing, and what was decided is committed, which never fails.
 #![tactic(auto)]
 
 mod creation;
+mod decided;
 mod devices;
 mod ended;
 mod laws;
@@ -11,6 +13,7 @@ mod resize;
 mod shelf;
 mod step;
 
+pub use decided::{Change, Decided};
 pub use laws::{answers_fit, refused_calls_change_nothing, states_stay_well_formed};
 pub use queries::show;
-pub use step::{api_leave, api_reply, api_step};
+pub use step::{api_commit, api_decide, api_step};

@@ -1,14 +1,15 @@
 // Calls on a machine's life.
-ghost use Rattle.std.specs.Prelude.{◌≡◌, ℕ, List, if◌then◌else◌};
-ghost use Rattle.chv_defs_api.specs.declared.control.ControlReply.TheVariants.{Ruled, Done};
-ghost use Rattle.chv_defs_base.specs.declared.rule.Rule.TheVariants.{NotCreated};
+ghost use Rattle.std.specs.Prelude.{◌≡◌, ℕ, List};
 ghost use Rattle.chv_defs_api.specs.declared.shelf.OnShelf.{OnShelf};
 ghost use Rattle.chv_defs_control.specs.Machine.{IsWellFormed};
-ghost use Rattle.chv_defs_control.specs.ApiStep.{is_running, is_uncreated, refused_or, reply_to};
+ghost use Rattle.chv_defs_control.specs.ApiStep.{after, is_running, reply_to};
 ghost use Rattle.chv_defs_api.specs.declared.control.ControlCall.TheVariants.{Begin, Boot, Restore};
-ghost use Rattle.chv_defs_api.specs.declared.control.Goal.TheVariants.{Pause, Shutdown};
+ghost use Rattle.chv_defs_api.specs.declared.control.Goal.TheVariants.{Delete, Pause, Shutdown};
 ghost use Rattle.chv_ctl_api.specs.ApiCalls.{refused_by};
+ghost use Rattle.chv_ctl_api.specs.Changed.{changed};
 
+use crate::decided::{Change, Decided, done, refused, stays};
+use crate::devices::has_devices;
 use chv_defs_api::{ControlReply, Goal};
 use chv_defs_base::Rule;
 use chv_defs_control::{Life, Machine};
@@ -23,16 +24,6 @@ pub fn refuse(machine: &Machine, rule: Rule) -> ControlReply
     }
 }
 
-/// Done, unless this rule is broken.
-pub fn done_unless(broken: Option<Rule>) -> ControlReply
-    ensures { result ≡ refused_or broken Done }
-{
-    match broken {
-        None => ControlReply::Done,
-        Some(rule) => ControlReply::Ruled(rule),
-    }
-}
-
 /// Whether the machine runs.
 pub fn is_running(life: Life) -> bool
     ensures { result ≡ is_running life }
@@ -40,27 +31,31 @@ pub fn is_running(life: Life) -> bool
     matches!(life, Life::Running)
 }
 
-/// The answer to a Boot.
-pub fn answer_boot(machine: &Machine) -> ControlReply
+/// What a Boot comes to. So far only a machine that has no device boots.
+pub fn decide_boot(machine: &Machine) -> Decided
     requires { IsWellFormed machine.now }
-    ensures { (shelf : List OnShelf) → result ≡ reply_to shelf machine.now Boot }
+    ensures reply { (shelf : List OnShelf) → result.reply ≡ reply_to shelf machine.now Boot }
+    ensures change { (caller : ℕ) → changed machine.now result.change ≡ after machine.now caller Boot result.reply }
 {
-    if is_running(machine.life) {
-        return refuse(machine, Rule::AlreadyBooted);
+    match &machine.config {
+        None => refused(Rule::NotCreated),
+        Some(_) if is_running(machine.life) => refused(Rule::AlreadyBooted),
+        Some(checked) if has_devices(checked) => refused(Rule::NotBuilt),
+        Some(_) => done(Change::Booted),
     }
-    refuse(machine, Rule::NotBuilt)
 }
 
-/// The answer to a Begin. No context is out so far, so that a shutdown or a delete reaches its goal at once; a pause is not
+/// What a Begin comes to. No context is out so far, so that a shutdown or a delete reaches its goal at once; a pause is not
 /// built.
-pub fn answer_begin(machine: &Machine, goal: Goal) -> ControlReply
+pub fn decide_begin(machine: &Machine, goal: Goal) -> Decided
     requires { IsWellFormed machine.now }
-    ensures { (shelf : List OnShelf) → result ≡ reply_to shelf machine.now (Begin goal) }
+    ensures reply { (shelf : List OnShelf) → result.reply ≡ reply_to shelf machine.now (Begin goal) }
+    ensures change { (caller : ℕ) → changed machine.now result.change ≡ after machine.now caller (Begin goal) result.reply }
 {
     match goal {
-        Goal::Pause => answer_pause(machine),
-        Goal::Shutdown => answer_shutdown(machine),
-        Goal::Delete => answer_delete(machine),
+        Goal::Pause => stays(answer_pause(machine)),
+        Goal::Shutdown => decide_shutdown(machine),
+        Goal::Delete => decide_delete(machine),
     }
 }
 
@@ -74,23 +69,26 @@ fn answer_pause(machine: &Machine) -> ControlReply
     refuse(machine, Rule::NotRunning)
 }
 
-fn answer_shutdown(machine: &Machine) -> ControlReply
+fn decide_shutdown(machine: &Machine) -> Decided
     requires { IsWellFormed machine.now }
-    ensures { (shelf : List OnShelf) → result ≡ reply_to shelf machine.now (Begin Shutdown) }
+    ensures reply { (shelf : List OnShelf) → result.reply ≡ reply_to shelf machine.now (Begin Shutdown) }
+    ensures change { (caller : ℕ) → changed machine.now result.change ≡ after machine.now caller (Begin Shutdown) result.reply }
 {
     if is_running(machine.life) {
-        return ControlReply::Done;
+        return done(Change::ShutDown);
     }
-    refuse(machine, Rule::NotBooted)
+    stays(refuse(machine, Rule::NotBooted))
 }
 
-fn answer_delete(machine: &Machine) -> ControlReply
-    ensures { result ≡ (if is_uncreated machine.now then Ruled NotCreated else Done) }
+fn decide_delete(machine: &Machine) -> Decided
+    requires { IsWellFormed machine.now }
+    ensures reply { (shelf : List OnShelf) → result.reply ≡ reply_to shelf machine.now (Begin Delete) }
+    ensures change { (caller : ℕ) → changed machine.now result.change ≡ after machine.now caller (Begin Delete) result.reply }
 {
     if machine.config.is_none() {
-        return ControlReply::Ruled(Rule::NotCreated);
+        return refused(Rule::NotCreated);
     }
-    ControlReply::Done
+    done(Change::Deleted)
 }
 
 /// The answer to a Restore.

@@ -1,4 +1,6 @@
 pub mod CallSteps
 pub mod ChangeLaws
+pub mod OpenBlocks
+pub mod PlanSteps
 pub mod RoomSteps
 pub mod ZoneSteps

@@ -9,13 +9,13 @@ use Rattle.chv_defs_memory.specs.BankBook.{pages_used, refused_or}
 use Rattle.chv_defs_memory.specs.BankState.{banks}
 use Rattle.chv_defs_memory.specs.Zones.{with_room, zone_refusal, Enters, GivesBack, Known, MakesRoom, OnlySeesMore, OtherBanksStay, OtherZonesStay, OwnerMayAsk}
 use Rattle.chv_defs_memory.proofs.ZoneLaws.{entered_by, enters-none, gives-back-none, makes-room-none, sees-none}
-use Rattle.chv_ctl_mem.specs.BankChanges.{back_to, calls_made, is_bank, is_in_zone, one_more_place, AreChanged, HasRoom, MayMake}
+use Rattle.chv_ctl_mem.specs.BankChanges.{back_to, calls_made, is_bank, is_in_zone, more_places, AreChanged, HasRoom, MayMake}
 use Rattle.chv_ctl_mem.specs.ZoneCalls.{AreAsBefore}
 use Rattle.chv_ctl_mem.proofs.ChangeLaws.{changed-bank, changed-zone}
 
-plain-call : (z b : ℕ) (c : BankCall) (known : Known) → pages_used c ≡ 0 → entered_by b c known ≡ calls_made (c ∷ []) z b known
-plain-call z b c known plain =
-    let same : known.pages - pages_used c ≡ known.pages = omega (arith, plain) in
+one-call : (z b : ℕ) (c : BankCall) (known : Known) → entered_by b c known ≡ calls_made (c ∷ []) z b known
+one-call z b c known =
+    let same : known.pages - pages_used c ≡ known.pages - (0 + pages_used c) = omega arith in
     ap (λ pages. record (entered_by b c known) { pages = pages }) same
 
 zone-as-before : (zone : ℕ) (before after : ℕ → ℕ → Known)
@@ -26,14 +26,14 @@ zone-as-before zone before after same others z b is = by (z == zone) refl
     by true e = let here : zone ≡ z = grind (arith, nat_tests) in rw (← here) (same b is.1)
     by false e = others z b is e
 
--- a call of the owner that uses no page
+-- a call of the owner
 pub call-made : (lent : List ℕ) (zone bank : ℕ) (before after : ℕ → ℕ → Known) (c : BankCall) (r : BankReply)
-    → lent ≡ [] → pages_used c ≡ 0 → Enters lent bank (before zone bank) (after zone bank) c r → OtherBanksStay before after zone bank
+    → lent ≡ [] → Enters lent bank (before zone bank) (after zone bank) c r → OtherBanksStay before after zone bank
     → AreChanged (is_bank zone bank) (calls_made (c ∷ [])) before after
-call-made lent zone bank before after c r home plain entered others =
+call-made lent zone bank before after c r home entered others =
     let P : List ℕ → Type 0 = λ l. Enters l bank (before zone bank) (after zone bank) c r in
     changed-bank zone bank (calls_made (c ∷ [])) before after
-    ((enters-none bank (before zone bank) (after zone bank) c r (subst P home entered)).1 ∙ plain-call zone bank c (before zone bank) plain)
+    ((enters-none bank (before zone bank) (after zone bank) c r (subst P home entered)).1 ∙ one-call zone bank c (before zone bank))
     others
 
 -- its condition, where no context is lent
@@ -57,31 +57,28 @@ seen-nothing lent zone before after home seen others =
     let P : List ℕ → Type 0 = λ l. (b : ℕ) → b < banks → OnlySeesMore l (before zone b) (after zone b) in
     zone-as-before zone before after (λ b below. sees-none (before zone b) (after zone b) ((subst P home seen) b below)) others
 
-asked-so : (zone : ℕ) (before after : ℕ → ℕ → Known) (answer : Result (Unit {0}) Refusal)
-    → ((b : ℕ) → b < banks → (before zone b).pages ≡ 0) → ((b : ℕ) → b < banks → after zone b ≡ with_room (before zone b) 1 0 answer) → OtherZonesStay before after zone
-    → MatchResult answer (λ _. AreChanged (is_in_zone zone) one_more_place before after) (λ _. AreAsBefore before after)
-asked-so zone before after (Ok done) no_page left others =
-    changed-zone zone one_more_place before after
-    (λ b below. left b below ∙ ap (λ pages. record (before zone b) { entries = (before zone b).entries + 1; pages = pages }) (sym (no_page b below)))
-    others
-asked-so zone before after (Err why) no_page left others = zone-as-before zone before after left others
+asked-so : (zone entries pages : ℕ) (before after : ℕ → ℕ → Known) (answer : Result (Unit {0}) Refusal)
+    → ((b : ℕ) → b < banks → after zone b ≡ with_room (before zone b) entries pages answer) → OtherZonesStay before after zone
+    → MatchResult answer (λ _. AreChanged (is_in_zone zone) (more_places entries pages) before after) (λ _. AreAsBefore before after)
+asked-so zone entries pages before after (Ok done) left others = changed-zone zone (more_places entries pages) before after left others
+asked-so zone entries pages before after (Err why) left others = zone-as-before zone before after left others
 
--- room for one more entry in a zone
-pub asked : (lent : List ℕ) (zone : ℕ) (before after : ℕ → ℕ → Known) (answer : Result (Unit {0}) Refusal)
-    → lent ≡ [] → ((b : ℕ) → b < banks → (before zone b).pages ≡ 0) → MakesRoom lent (before zone) (after zone) zone 1 0 (tt {0}) answer → OtherZonesStay before after zone
-    → HasRoom (is_in_zone zone) (zone_refusal zone (before zone) 1 0) before after answer
-asked lent zone before after answer home no_page made others =
-    let P : List ℕ → Type 0 = λ l. MakesRoom l (before zone) (after zone) zone 1 0 (tt {0}) answer in
-    let both : (answer ≡ refused_or (zone_refusal zone (before zone) 1 0) (tt {0})) × ((b : ℕ) → b < banks → after zone b ≡ with_room (before zone b) 1 0 answer) =
-    makes-room-none (before zone) (after zone) zone 1 0 (tt {0}) answer (subst P home made) in
-    record { answered = both.0; left = asked-so zone before after answer no_page both.1 others }
+-- room in a zone
+pub asked : (lent : List ℕ) (zone entries pages : ℕ) (before after : ℕ → ℕ → Known) (answer : Result (Unit {0}) Refusal)
+    → lent ≡ [] → MakesRoom lent (before zone) (after zone) zone entries pages (tt {0}) answer → OtherZonesStay before after zone
+    → HasRoom (is_in_zone zone) entries pages (zone_refusal zone (before zone) entries pages) before after answer
+asked lent zone entries pages before after answer home made others =
+    let P : List ℕ → Type 0 = λ l. MakesRoom l (before zone) (after zone) zone entries pages (tt {0}) answer in
+    let both : (answer ≡ refused_or (zone_refusal zone (before zone) entries pages) (tt {0})) × ((b : ℕ) → b < banks → after zone b ≡ with_room (before zone b) entries pages answer) =
+    makes-room-none (before zone) (after zone) zone entries pages (tt {0}) answer (subst P home made) in
+    record { answered = both.0; left = asked-so zone entries pages before after answer both.1 others }
 
 -- the same of a call that may want memory
-pub asked-of : {E : Type 0} (lent : List ℕ) (zone : ℕ) (before after : ℕ → ℕ → Known) (answer : Result (Result (Unit {0}) Refusal) E)
-    → lent ≡ [] → ((b : ℕ) → b < banks → (before zone b).pages ≡ 0) → IfOk answer (λ a. MakesRoom lent (before zone) (after zone) zone 1 0 (tt {0}) a) → OtherZonesStay before after zone
-    → IfOk answer (HasRoom (is_in_zone zone) (zone_refusal zone (before zone) 1 0) before after)
-asked-of lent zone before after (Ok answer) home no_page made others = asked lent zone before after answer home no_page made others
-asked-of lent zone before after (Err why) home no_page made others = made
+pub asked-of : {E : Type 0} (lent : List ℕ) (zone entries pages : ℕ) (before after : ℕ → ℕ → Known) (answer : Result (Result (Unit {0}) Refusal) E)
+    → lent ≡ [] → IfOk answer (λ a. MakesRoom lent (before zone) (after zone) zone entries pages (tt {0}) a) → OtherZonesStay before after zone
+    → IfOk answer (HasRoom (is_in_zone zone) entries pages (zone_refusal zone (before zone) entries pages) before after)
+asked-of lent zone entries pages before after (Ok answer) home made others = asked lent zone entries pages before after answer home made others
+asked-of lent zone entries pages before after (Err why) home made others = made
 
 -- and where it fails
 pub failed-of : {A E : Type 0} (lent : List ℕ) (zone : ℕ) (before after : ℕ → ℕ → Known) (answer : Result A E)

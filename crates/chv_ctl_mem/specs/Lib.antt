@@ -1,2 +1,3 @@
 pub mod BankChanges
+pub mod Plans
 pub mod ZoneCalls

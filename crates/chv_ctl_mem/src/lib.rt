@@ -3,8 +3,12 @@
 
 mod boot;
 mod each;
+mod laws;
+mod owner;
+mod plan;
+mod planned;
 mod room;
-mod wipe;
 
-pub use boot::boot_zones;
-pub use wipe::wipe_all;
+pub use boot::{boot_zones, wipe_all};
+pub use laws::{boot_opens_the_boot_blocks, wipe_closes_all};
+pub use owner::make_owner_calls;

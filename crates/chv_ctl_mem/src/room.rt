@@ -26,25 +26,27 @@ pub fn zones_in_effect(machine: &Machine) -> &[ZoneConfig]
     }
 }
 
-/// Reserves a place for one more entry in each bank of the `count` lowest zones, while no context is lent and `kept` places are
-/// reserved in each. `Full` comes exactly where a bank has no place, and names the lowest such bank of the lowest such zone;
-/// then and at an `Err` every bank is as before.
+/// Reserves places for further entries, and for pages, in each bank of the `count` lowest zones, while no context is lent and
+/// `kept` places are reserved in each. `Full` comes exactly where a bank has no such room, and names the lowest such bank of the
+/// lowest such zone; then and at an `Err` every bank is as before.
 pub fn make_room<R: Copy, Z: Zones<R>>(
     rt: R,
     zones: &mut Z,
     count: u8,
+    entries: u32,
+    pages: u32,
     kept: u32,
 ) -> Result<Result<(), Refusal>, AllocError>
     requires count { count ≤ most_zones }
     requires home { Z.lent zones.old ≡ [] }
     requires rest { HavePlaces count kept (Z.known zones.old) }
-    ensures room { IfOk result (HasRoom (is_in_zone_below count) (refusal_below count (Z.known zones.old)) (Z.known zones.old) (Z.known zones.new)) }
+    ensures room { IfOk result (HasRoom (is_in_zone_below count) entries pages (refusal_below count entries pages (Z.known zones.old)) (Z.known zones.old) (Z.known zones.new)) }
     ensures err { OnErr result (AreAsBefore (Z.known zones.old) (Z.known zones.new)) }
     ensures home { Z.lent zones.new ≡ [] }
     ensures books { Z.books zones.new ≡ Z.books zones.old }
 {
     for zone in 0..count {
-        match ask_room(rt, zones, zone) {
+        match ask_room(rt, zones, zone, entries, pages) {
             Ok(Ok(())) => {}
             Ok(Err(why)) => {
                 give_back_below(rt, zones, zone, kept);
@@ -59,24 +61,26 @@ pub fn make_room<R: Copy, Z: Zones<R>>(
     Ok(Ok(()))
 }
 
-// Reserves a place for one more entry in each bank of a zone.
+// Reserves places for further entries, and for pages, in each bank of a zone.
 fn ask_room<R: Copy, Z: Zones<R>>(
     rt: R,
     zones: &mut Z,
     zone: u8,
+    entries: u32,
+    pages: u32,
 ) -> Result<Result<(), Refusal>, AllocError>
     requires zone { zone < most_zones }
     requires home { Z.lent zones.old ≡ [] }
     requires no_page { (b : ℕ) → b < banks → (Z.known zones.old zone b).pages ≡ 0 }
-    ensures room { IfOk result (HasRoom (is_in_zone zone) (zone_refusal zone (Z.known zones.old zone) 1 0) (Z.known zones.old) (Z.known zones.new)) }
+    ensures room { IfOk result (HasRoom (is_in_zone zone) entries pages (zone_refusal zone (Z.known zones.old zone) entries pages) (Z.known zones.old) (Z.known zones.new)) }
     ensures err { OnErr result (AreAsBefore (Z.known zones.old) (Z.known zones.new)) }
     ensures home { Z.lent zones.new ≡ [] }
     ensures books { Z.books zones.new ≡ Z.books zones.old }
 {
-    zones.room(rt, zone, 1, 0)
+    zones.room(rt, zone, entries, pages)
 }
 
-// Gives the place for one more entry back in each bank of the `count` lowest zones, where `kept` places were reserved before.
+// Gives room back in each bank of the `count` lowest zones, where `kept` places were reserved before.
 fn give_back_below<R: Copy, Z: Zones<R>>(rt: R, zones: &mut Z, count: u8, kept: u32)
     requires count { count ≤ most_zones }
     requires home { Z.lent zones.old ≡ [] }

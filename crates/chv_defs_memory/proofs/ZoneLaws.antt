@@ -68,7 +68,7 @@ enters-none bank before after c r h =
 -- ---- the first refusal
 
 -- where two functions agree at each number of a range, they make one list of it
-map-range-same : {A : Type 0} (f g : ℕ → A) (from count : ℕ) → ((i : ℕ) → i < from + count → f i ≡ g i) → map f (range_with_len from count) ≡ map g (range_with_len from count)
+pub map-range-same : {A : Type 0} (f g : ℕ → A) (from count : ℕ) → ((i : ℕ) → i < from + count → f i ≡ g i) → map f (range_with_len from count) ≡ map g (range_with_len from count)
 map-range-same f g from zero same = refl
 map-range-same f g from (suc count) same =
     let here : f from ≡ g from = same from (omega arith) in

@@ -1,4 +1,5 @@
-pub mod ZoneBanks
+pub mod Entries
+pub mod KnownBanks
 pub mod OwnEntries
 pub mod Refusals
-pub mod KnownBanks
+pub mod ZoneBanks

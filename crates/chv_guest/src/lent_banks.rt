@@ -2,7 +2,7 @@
 ghost use Rattle.std.specs.Prelude.{◌≡◌, ◌<◌, [], IfOk};
 ghost use Rattle.chv_defs_memory.specs.LegalBank.{IsLegal};
 ghost use Rattle.chv_defs_memory.specs.Zones.{most_zones, IsBank};
-ghost use Rattle.chv_guest.specs.LentBanks.{bank_at, fresh_banks, known_at, AreAllBanks};
+ghost use Rattle.chv_guest.specs.LentBanks.{bank_at, fresh_zones, known_at, AreAllBanks};
 
 use crate::room::{keep_room, make_room, place_of};
 use chv_bank::Bank;
@@ -14,21 +14,20 @@ use std::marker::Model;
 /// How many banks there are.
 const BANK_COUNT: u16 = MOST_ZONES as u16 * BANKS as u16;
 
-/// The banks of all zones, on one thread. Contracts see them in one list, those of zone 0 first. So far no context can be
-/// lent, so that every entry is the owner's.
+/// The banks of all zones, on one thread. Contracts see them in one list, those of zone 0 first, and the callers of the contexts
+/// that are lent. So far no context can be, so that every entry is the owner's.
 #[derive(Drop)]
 pub struct LentBanks {
     banks: Vec<Bank>,
 }
 
 impl Model for LentBanks {
-    ghost use Rattle.std.specs.Prelude.{List};
-    ghost use Rattle.chv_defs_memory.specs.BankBook.{BankBook};
-    ghost use Rattle.chv_guest.specs.LentBanks.{AreAllBanks};
+    ghost use Rattle.std.specs.Prelude.{[]};
+    ghost use Rattle.chv_guest.specs.LentBanks.{AreAllBanks, Lent};
 
-    ghost Value = { List BankBook };
+    ghost Value = { Lent };
 
-    ghost view = { λ l. l.banks.items };
+    ghost view = { λ l. record { books = l.banks.items; lent = [] } };
 
     ghost invariant = { λ l. AreAllBanks l.banks.items };
 }
@@ -36,7 +35,7 @@ impl Model for LentBanks {
 impl LentBanks {
     /// Banks to which nothing happened yet.
     pub fn new(alloc: Global) -> Result<LentBanks, AllocError>
-        ensures { IfOk result (λ made. made ≡ fresh_banks) }
+        ensures { IfOk result (λ made. made ≡ fresh_zones) }
     {
         let mut banks = Vec::new(alloc);
         for place in 0..BANK_COUNT {
@@ -53,15 +52,24 @@ impl LentBanks {
     /// The history of a bank, which is legal.
     pub fn history(&self, zone: u8, bank: u8) -> &[BankEntry]
         requires { IsBank zone bank }
-        ensures value { result.now ≡ (bank_at self.now zone bank).history }
-        ensures legal { IsLegal bank (bank_at self.now zone bank).history }
+        ensures value { result.now ≡ (bank_at self.now.books zone bank).history }
+        ensures legal { IsLegal bank (bank_at self.now.books zone bank).history }
     {
         self.banks[place_of(zone, bank)].history()
     }
 
+    /// That these are the banks of all zones, each at its place, and that no context is lent. It does nothing: a caller that needs
+    /// the fact says so.
+    pub fn recall(&self)
+        ensures all { AreAllBanks self.now.books }
+        ensures home { self.now.lent ≡ [] }
+    {
+        let _ = &self.banks;
+    }
+
     /// The banks of all zones, those of zone 0 first. Takes no memory.
     pub fn into_banks(self) -> Vec<Bank>
-        ensures value { result.items ≡ self }
+        ensures value { result.items ≡ self.books }
         ensures all { AreAllBanks result.items }
     {
         self.banks
@@ -69,9 +77,9 @@ impl LentBanks {
 }
 
 impl Banked for LentBanks {
-    ghost known = { known_at };
+    ghost known = { λ zones. known_at zones.books };
 
-    ghost lent = { λ _. [] };
+    ghost lent = { λ zones. zones.lent };
 
     ghost books = { λ _. [] };
 }

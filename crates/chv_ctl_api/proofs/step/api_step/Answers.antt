@@ -10,5 +10,5 @@ returns-clause-formed c =
     let shelf = c.args.shelf.now in
     let m : Machine = c.args.machine.now in
     let call = c.args.call.now in
-    let left : c.api_leave.new.machine ≡ after m c.args.caller call (reply_to shelf m call) = c.in_ok-api_leave.ensures.ok ∙ ap (after m c.args.caller call) c.in_ok-reply.ensures.reply in
+    let left : c.api_commit.new.machine ≡ after m c.args.caller call (reply_to shelf m call) = c.api_commit.ensures ∙ c.in_ok-decided.ensures.change ∙ ap (after m c.args.caller call) c.in_ok-decided.ensures.reply in
     subst (λ (x : Machine). IsWellFormed x) (sym left) (IsWellFormed-after shelf m c.args.caller call c.requires.formed c.requires.may)

@@ -8,4 +8,4 @@ owner-requires-clause-condition g c =
 pub returns-clause-called : goal.returns-clause-called
 returns-clause-called g c =
     call-made (g.Z.Banked.lent c.args.zones.now) c.args.zone c.args.bank (g.Z.Banked.known c.args.zones.now) (g.Z.Banked.known c.owner.new.self)
-    c.args.call.now c.owner.result c.requires.home c.requires.may.no_page c.owner.ensures.entered c.owner.ensures.others
+    c.args.call.now c.owner.result c.requires.home c.owner.ensures.entered c.owner.ensures.others

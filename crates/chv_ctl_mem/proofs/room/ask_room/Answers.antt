@@ -3,7 +3,7 @@ use Rattle.chv_ctl_mem.proofs.room.ask_room.Goals as goal
 
 pub returns-clause-room : goal.returns-clause-room
 returns-clause-room g c =
-    asked-of (g.Z.Banked.lent c.args.zones.now) c.args.zone (g.Z.Banked.known c.args.zones.now) (g.Z.Banked.known c.room.new.self) c.room.result c.requires.home c.requires.no_page c.room.ensures.room c.room.ensures.others
+    asked-of (g.Z.Banked.lent c.args.zones.now) c.args.zone c.args.entries c.args.pages (g.Z.Banked.known c.args.zones.now) (g.Z.Banked.known c.room.new.self) c.room.result c.requires.home c.room.ensures.room c.room.ensures.others
 
 pub returns-clause-err : goal.returns-clause-err
 returns-clause-err g c =

@@ -2,7 +2,7 @@ use Rattle.std.proofs.Common.{◌<◌, ℕ, List, [], sym, subst}
 use Rattle.chv_defs_memory.specs.BankState.{banks}
 use Rattle.chv_defs_memory.specs.BankBook.{BankBook}
 use Rattle.chv_defs_memory.specs.Zones.{GivesBack, OtherZonesStay}
-use Rattle.chv_guest.specs.LentBanks.{known_at, AreAllBanks}
+use Rattle.chv_guest.specs.LentBanks.{known_at, AreAllBanks, Lent}
 use Rattle.chv_guest.specs.Room.{keep_places}
 use Rattle.chv_guest.proofs.ZoneBanks.{AreAllBanks-changed}
 use Rattle.chv_guest.proofs.KnownBanks.{gives_back, keep_places-keeps, others-stay}
@@ -16,13 +16,13 @@ invariant_of-self c =
 pub returns-clause-left : goal.returns-clause-left
 returns-clause-left c =
     let old : List BankBook = c.self.inside.banks.items in
-    subst (λ (books : List BankBook). (bank : ℕ) → bank < banks → GivesBack [] c.args.keep (known_at books c.args.zone bank) (known_at c.keep_room.new.all.items c.args.zone bank)) c.self.view_is
+    subst (λ (zones : Lent). (bank : ℕ) → bank < banks → GivesBack zones.lent c.args.keep (known_at zones.books c.args.zone bank) (known_at c.keep_room.new.all.items c.args.zone bank)) c.self.view_is
     (subst (λ (after : List BankBook). (bank : ℕ) → bank < banks → GivesBack [] c.args.keep (known_at old c.args.zone bank) (known_at after c.args.zone bank)) (sym c.keep_room.ensures)
     (λ bank inside. gives_back old c.args.zone bank c.args.keep c.self.invariant c.requires.zone inside))
 
 pub returns-clause-others : goal.returns-clause-others
 returns-clause-others c =
     let old : List BankBook = c.self.inside.banks.items in
-    subst (λ (books : List BankBook). OtherZonesStay (known_at books) (known_at c.keep_room.new.all.items) c.args.zone) c.self.view_is
+    subst (λ (zones : Lent). OtherZonesStay (known_at zones.books) (known_at c.keep_room.new.all.items) c.args.zone) c.self.view_is
     (subst (λ (after : List BankBook). OtherZonesStay (known_at old) (known_at after) c.args.zone) (sym c.keep_room.ensures)
     (others-stay old c.args.zone (keep_places c.args.keep) c.self.invariant c.requires.zone))

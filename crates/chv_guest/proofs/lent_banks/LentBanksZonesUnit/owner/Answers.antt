@@ -2,7 +2,7 @@ use Rattle.std.proofs.Common.{◌≡◌, ℕ, List, [], sym, ap, subst, ◌∙�
 use Rattle.chv_defs_memory.specs.BankBook.{BankBook}
 use Rattle.chv_defs_memory.specs.LegalBank.{IsLegal, OwnerMay}
 use Rattle.chv_defs_memory.specs.Zones.{OwnerMayAsk}
-use Rattle.chv_guest.specs.LentBanks.{bank_at}
+use Rattle.chv_guest.specs.LentBanks.{bank_at, Lent}
 use Rattle.chv_guest.proofs.ZoneBanks.{at-place, bank-known, bank-read, bank-set}
 use Rattle.chv_guest.proofs.OwnEntries.{may-from_ask}
 use Rattle.chv_guest.proofs.lent_banks.LentBanksZonesUnit.owner.Goals as goal
@@ -13,7 +13,7 @@ owner-requires-clause-condition c =
     let here : c.index_mut.result.now ≡ bank_at old c.args.zone c.args.bank =
     bank-read old c.args.zone c.args.bank c.place_of.result c.index_mut.result.now c.self.invariant c.requires.zone.0 c.requires.zone.1 c.place_of.ensures c.index_mut.ensures.value in
     let ask : OwnerMayAsk [] c.args.bank (bank_at old c.args.zone c.args.bank).history c.args.call.now =
-    subst (λ (books : List BankBook). OwnerMayAsk [] c.args.bank (bank_at books c.args.zone c.args.bank).history c.args.call.now) (sym c.self.view_is) c.requires.condition in
+    subst (λ (zones : Lent). OwnerMayAsk zones.lent c.args.bank (bank_at zones.books c.args.zone c.args.bank).history c.args.call.now) (sym c.self.view_is) c.requires.condition in
     let may : OwnerMay c.args.bank (bank_at old c.args.zone c.args.bank).history c.args.call.now =
     may-from_ask c.args.bank (bank_at old c.args.zone c.args.bank).history c.args.call.now (at-place old c.args.zone c.args.bank c.self.invariant c.requires.zone.0 c.requires.zone.1).own ask in
     subst (λ (b : BankBook). OwnerMay b.bank b.history c.args.call.now) (sym here)

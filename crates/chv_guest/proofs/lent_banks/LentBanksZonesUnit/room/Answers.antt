@@ -1,7 +1,7 @@
 use Rattle.std.proofs.Common.{List, [], IfOk, sym, subst}
 use Rattle.chv_defs_memory.specs.BankBook.{BankBook}
 use Rattle.chv_defs_memory.specs.Zones.{MakesRoom, OtherZonesStay}
-use Rattle.chv_guest.specs.LentBanks.{known_at, AreAllBanks}
+use Rattle.chv_guest.specs.LentBanks.{known_at, AreAllBanks, Lent}
 use Rattle.chv_guest.proofs.KnownBanks.{makes_room, others-stay-room, AreAllBanks-room}
 use Rattle.chv_guest.proofs.lent_banks.LentBanksZonesUnit.room.Goals as goal
 
@@ -13,13 +13,13 @@ invariant_of-self c =
 pub returns-clause-room : goal.returns-clause-room
 returns-clause-room c =
     let old : List BankBook = c.self.inside.banks.items in
-    subst (λ (books : List BankBook). IfOk c.make_room.result (λ answer. MakesRoom [] (known_at books c.args.zone) (known_at c.make_room.new.all.items c.args.zone) c.args.zone c.args.entries c.args.pages tt answer)) c.self.view_is
+    subst (λ (zones : Lent). IfOk c.make_room.result (λ answer. MakesRoom zones.lent (known_at zones.books c.args.zone) (known_at c.make_room.new.all.items c.args.zone) c.args.zone c.args.entries c.args.pages tt answer)) c.self.view_is
     (subst (λ (after : List BankBook). IfOk c.make_room.result (λ answer. MakesRoom [] (known_at old c.args.zone) (known_at after c.args.zone) c.args.zone c.args.entries c.args.pages tt answer)) (sym c.make_room.ensures.made)
     (makes_room old c.args.zone c.args.entries c.args.pages c.make_room.result c.self.invariant c.requires.zone c.make_room.ensures.answer))
 
 pub returns-clause-others : goal.returns-clause-others
 returns-clause-others c =
     let old : List BankBook = c.self.inside.banks.items in
-    subst (λ (books : List BankBook). OtherZonesStay (known_at books) (known_at c.make_room.new.all.items) c.args.zone) c.self.view_is
+    subst (λ (zones : Lent). OtherZonesStay (known_at zones.books) (known_at c.make_room.new.all.items) c.args.zone) c.self.view_is
     (subst (λ (after : List BankBook). OtherZonesStay (known_at old) (known_at after) c.args.zone) (sym c.make_room.ensures.made)
     (others-stay-room old c.args.zone c.args.entries c.args.pages c.make_room.result c.self.invariant c.requires.zone))

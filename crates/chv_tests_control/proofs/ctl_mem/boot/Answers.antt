@@ -1,0 +1,11 @@
+use Rattle.std.proofs.Common.{false, sym, subst, List}
+use Rattle.chv_defs_memory.specs.BankBook.{BankBook}
+use Rattle.chv_guest.specs.LentBanks.{known_at}
+use Rattle.chv_ctl_mem.specs.ZoneCalls.{AreAtRest}
+use Rattle.chv_tests_control.proofs.AtRest.{fresh-at-rest}
+use Rattle.chv_tests_control.proofs.ctl_mem.boot.Goals as goal
+
+pub boot_zones-requires-clause-rest : goal.boot_zones-requires-clause-rest
+boot_zones-requires-clause-rest c =
+    let P : List BankBook → Type 0 = λ books. AreAtRest false c.args.machine.now (known_at books) in
+    subst P (sym c.requires.zones) (fresh-at-rest c.args.machine.now c.requires.machine.checked)

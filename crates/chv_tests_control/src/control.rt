@@ -1,0 +1,120 @@
+// A full book, what a machine shows, and the laws.
+ghost use Rattle.std.specs.Prelude.{◌≡◌, true, IfOk};
+ghost use Rattle.chv_defs_control.specs.declared.machine.Life.TheVariants as life;
+
+use chv_control::{Control, Inner, Start, refusals_change_nothing};
+use chv_ctl_api::{answers_fit, refused_calls_change_nothing, states_stay_well_formed};
+use chv_defs_api::{ControlCall, ControlReply, ShownState};
+use chv_defs_base::{BookId, Full, Row};
+use chv_store::{AnyDisk, MemDisk};
+use chv_tests_samples::{name, plain_config};
+use chv_tests_steps::step;
+use std::alloc::{AllocError, Global};
+use std::test::Fail;
+
+// The control value of two sessions with the disk `focal.raw`, to which nothing happened yet.
+fn fresh(alloc: Global) -> Result<Control<MemDisk>, Fail> {
+    let disk = MemDisk::new(alloc, 8, Row::empty(alloc))?;
+    let mut disks = Vec::new(alloc);
+    disks.push((name(alloc, "focal.raw")?, AnyDisk::Given(disk)))?;
+    let start = Start { disks, sessions: 2 };
+    match Control::new(alloc, start) {
+        Ok(control) => Ok(control),
+        Err(_) => Err(Fail::from("no memory")),
+    }
+}
+
+// How full the book is: no room is left but the place for a Stop.
+const FULL: Inner = Inner::Full(Full {
+    book: BookId::Control,
+    entries: 1_048_576,
+    bytes: 0,
+});
+
+// A Ping of a session: why it makes no entry, where it makes none.
+fn ping(control: &mut Control<MemDisk>) -> Result<Option<Inner>, AllocError> {
+    Ok(control.apply(1, &ControlCall::Ping)?.err())
+}
+
+// Whether a Stop is entered.
+fn stops(control: &mut Control<MemDisk>) -> Result<bool, AllocError> {
+    if control.stopped() {
+        return Ok(false);
+    }
+    let answer = control.apply(0, &ControlCall::Stop)?;
+    Ok(matches!(answer, Ok(ControlReply::Done)))
+}
+
+fn fill_up(control: &mut Control<MemDisk>) -> Result<(), Fail> {
+    for _ in 0..1_048_575 {
+        step("a ping while there is room", ping(control)?.is_none())?;
+    }
+    step("a ping with one place left", ping(control)? == Some(FULL))?;
+    step("a stop in the last place", stops(control)?)?;
+    step("all entries", control.history().len() == 1_048_576)
+}
+
+// Whether a control value falls into so many entries, two sessions and one disk.
+fn falls_into(control: Control<MemDisk>, entries: usize) -> bool {
+    let (history, start) = control.into_parts();
+    history.len() == entries && start.sessions == 2 && start.disks.len() == 1
+}
+
+// They have no bodies.
+fn laws() {
+    refusals_change_nothing();
+    answers_fit();
+    refused_calls_change_nothing();
+    states_stay_well_formed();
+}
+
+#[test]
+fn a_full_book_keeps_a_place_for_the_stop(rt: HostRuntime) -> Result<(), Fail> {
+    let mut control = fresh(rt.alloc())?;
+    fill_up(&mut control)?;
+    assert!(rt;
+        falls_into(control, 1_048_576),
+        "the parts: entries, sessions and disks"
+    );
+    laws();
+    Ok(())
+}
+
+// Whether session 1 creates a plain machine.
+fn creates(alloc: Global, control: &mut Control<MemDisk>) -> Result<bool, AllocError>
+    ensures { IfOk result (λ done. done ≡ true → control.new.machine.life ≡ life.Created) }
+{
+    let create = ControlCall::Create(plain_config(alloc));
+    let answer = control.apply(1, &create);
+    drop(create);
+    Ok(matches!(answer?, Ok(ControlReply::Done)))
+}
+
+// Whether a plain machine is shown as created.
+fn shows(alloc: Global, control: &Control<MemDisk>) -> Result<bool, AllocError>
+    requires { control.now.machine.life ≡ life.Created }
+{
+    let info = control.shown()?;
+    let plain = plain_config(alloc);
+    let is_so = info.config == plain
+        && info.state == ShownState::Created
+        && info.actual_size == 536_870_912;
+    drop(plain);
+    drop(info);
+    Ok(is_so)
+}
+
+// A machine that was created is shown, and that asks for no entry.
+fn create_and_show(alloc: Global, control: &mut Control<MemDisk>) -> Result<(), Fail> {
+    step("create", creates(alloc, control)?)?;
+    step("what is shown", shows(alloc, control)?)?;
+    step("one entry", control.history().len() == 1)
+}
+
+#[test]
+fn a_machine_is_shown(rt: HostRuntime) -> Result<(), Fail> {
+    let mut control = fresh(rt.alloc())?;
+    let came = create_and_show(rt.alloc(), &mut control);
+    drop(control);
+    came
+}

@@ -1,0 +1,102 @@
+// Outputs that fail while a trace is printed. How each line is printed is shown by scenarios and by the cases of `chv_cases`.
+ghost use Rattle.std.specs.Prelude.{◌≡◌, []};
+
+use chv_defs::{
+    Bytes, ControlCall, ControlEntry, ControlReply, Row, SessionEnd, SessionLog, SessionTrace,
+    Trace,
+};
+use chv_io::MemSink;
+use chv_tests_samples::numbers;
+use chv_trace::{PrintError, print};
+use std::alloc::{AllocError, Global};
+use std::test::Fail;
+
+fn push_call(control: &mut Row<ControlEntry>, call: ControlCall) -> Result<(), AllocError> {
+    control.push(ControlEntry {
+        caller: 1,
+        call,
+        reply: ControlReply::Done,
+    })
+}
+
+// A session that took so many bytes, each a G, and was replied none.
+fn push_session(
+    alloc: Global,
+    sessions: &mut Row<SessionTrace>,
+    asked: usize,
+) -> Result<(), AllocError> {
+    let log = SessionLog {
+        asked: Bytes::new(vec![in alloc; b'G'; asked]?),
+        replied: Bytes::new(Vec::new(alloc)),
+        end: SessionEnd::Ended,
+    };
+    sessions.push(SessionTrace { session: 1, log })
+}
+
+// A trace to which nothing happened.
+fn no_trace(alloc: Global) -> Trace
+    ensures disks { result.disks ≡ [] }
+    ensures vcpus { result.vcpus ≡ [] }
+{
+    Trace {
+        disks: Row::empty(alloc),
+        vcpus: Row::empty(alloc),
+        control: Row::empty(alloc),
+        banks: Row::empty(alloc),
+        sessions: Row::empty(alloc),
+    }
+}
+
+// A session that made a ping and took so many bytes.
+fn fill_ping(alloc: Global, trace: &mut Trace, asked: usize) -> Result<(), AllocError>
+    ensures disks { trace.new.disks ≡ trace.old.disks }
+    ensures vcpus { trace.new.vcpus ≡ trace.old.vcpus }
+{
+    push_call(&mut trace.control, ControlCall::Ping)?;
+    push_call(&mut trace.control, ControlCall::Bye)?;
+    push_session(alloc, &mut trace.sessions, asked)
+}
+
+/// How printing ends, and how many bytes are written.
+type Printed = (Result<(), PrintError>, usize);
+
+// What comes of printing a trace where the call of the output with this number fails.
+fn printed(alloc: Global, trace: &Trace, failing: u64) -> Result<Printed, AllocError>
+    requires disks { trace.now.disks ≡ [] }
+    requires vcpus { trace.now.vcpus ≡ [] }
+{
+    let mut out = MemSink::new(alloc, 200_000, numbers(alloc, &[failing])?)?;
+    Ok((print(alloc, trace, &mut out), out.written().len()))
+}
+
+// What comes of the trace of a session that made a ping and took so many bytes.
+fn ping(alloc: Global, asked: usize, failing: u64) -> Result<Printed, AllocError> {
+    let mut trace = no_trace(alloc);
+    let filled = fill_ping(alloc, &mut trace, asked);
+    let printed = printed(alloc, &trace, failing);
+    drop(trace);
+    filled?;
+    printed
+}
+
+/// What comes of printing a trace, by name: how many bytes its session took, the call of the output that fails, how
+/// printing ends, and how many bytes are written. 75 bytes stand before the pairs of the bytes that were taken, so that the
+/// first piece has 32,731 of these.
+const OUTPUTS: [(&str, usize, u64, Printed); 3] = [
+    ("the one piece fails", 2, 1, (Err(PrintError::Failed), 0)),
+    (
+        "the second of two pieces fails",
+        40_000,
+        2,
+        (Err(PrintError::Failed), 65_537),
+    ),
+    ("both pieces are put", 40_000, 3, (Ok(()), 80_088)),
+];
+
+#[test]
+fn outputs_that_fail(rt: HostRuntime) -> Result<(), Fail> {
+    for (name, asked, failing, expected) in &OUTPUTS {
+        assert!(rt; ping(rt.alloc(), *asked, *failing)? == *expected, "{name}");
+    }
+    Ok(())
+}
