@@ -29,6 +29,10 @@ or_parts false c e = (refl, e)
 at_most : (a b : ℕ) → nat_lt a b ≡ false → b ≤ a
 at_most a b e = grind (arith, nat_tests)
 
+pub not-stop : (c : ControlCall) → (c ≡ call.Stop → ⊥) → is_stop c ≡ false
+not-stop call.Stop other = absurd (other refl)
+not-stop c other = refl
+
 -- a call that is no Stop leaves whether one was entered
 stopped_after : (m : Machine) (caller : ℕ) (c : ControlCall) (r : ControlReply) → is_stop c ≡ false → (after m caller c r).stopped ≡ m.stopped
 stopped_after m caller call.Stop r other = cc
@@ -49,6 +53,11 @@ picked false false full other none = refl
 -- an entry that is entered passes no limit
 none_passed : (m : Machine) (history : List ControlEntry) (entry : ControlEntry) → is_stop entry.call ≡ false → full_at m history entry ≡ None → passes_limit m history entry ≡ false
 none_passed m history entry other none = picked (is_stop entry.call) (passes_limit m history entry) (record { book = Control; entries = places m history; bytes = payload history }) other none
+
+-- the payload with an entry that is entered is within the limit
+pub payload-within : (m : Machine) (history : List ControlEntry) (entry : ControlEntry) → is_stop entry.call ≡ false → full_at m history entry ≡ None → payload history + entry_payload entry ≤ most_payload
+payload-within m history entry other none =
+    at_most most_payload (payload history + entry_payload entry) (or_parts (nat_lt most_entries (places m history + 1)) (nat_lt most_payload (payload history + entry_payload entry)) (none_passed m history entry other none)).1
 
 -- one more entry, where whether a Stop was entered stays
 places_more : (n : ℕ) (history : List ControlEntry) (entry : ControlEntry) (s t : Bool) → t ≡ s → length history + (if s then 0 else 1) + 1 ≤ n → length (history ++ entry ∷ []) + (if t then 0 else 1) ≤ n

@@ -1,3 +1,7 @@
+pub mod Answered
 pub mod Kept
+pub mod KeptBanks
+pub mod QuietBanks
+pub mod QuietSteps
 pub mod Refusals
 pub mod Settled

@@ -10,6 +10,6 @@ pub enum Inner {
     NotYet,
     /// The run is over.
     Over,
-    /// The entry would pass a limit of the control book.
+    /// The entry would pass a limit of the control book, or calls that it makes in a bank one of that bank.
     Full(Full),
 }

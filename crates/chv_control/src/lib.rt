@@ -1,7 +1,9 @@
-//! The control value: the control machine, its history, which is legal by the value's type, and the disks that stand by.
+//! The control value: the control machine, its history, which is legal by the value's type, the disks that stand by, and the
+//! banks of all zones.
 #![tactic(auto)]
 
 mod book;
+mod books;
 mod control;
 mod entries;
 mod inner;

@@ -1,6 +1,5 @@
 -- Calls of the owner that are made one after another in a bank.
-use Rattle.std.proofs.Common.{◌≡◌, ℕ, ◌+◌, ◌-◌, ◌<◌, zero, suc, List, [], ◌∷◌, ◌++◌, length, take, get_or, Option, None, Some, refl, sym, ◌∙◌, ap, subst, arith, true, false}
-use Rattle.std.specs.Prelude.{◌==◌, sum_by}
+use Rattle.std.proofs.Common.{◌≡◌, ℕ, ◌+◌, ◌-◌, ◌<◌, zero, suc, List, [], ◌∷◌, ◌++◌, length, take, get_or, refl, sym, ◌∙◌, ap, subst, arith}
 use Rattle.std.proofs.lemmas.List.{append-nil, take_more}
 use Rattle.std.proofs.lemmas.List.Sums.{sum_by-cons}
 use Rattle.chv_defs_memory.specs.declared.bank.BankCall.{BankCall}
@@ -9,7 +8,7 @@ use Rattle.chv_defs_memory.specs.BankBook.{owner_reply, pages_used, with_entry}
 use Rattle.chv_defs_memory.specs.MadeCalls.{pages_wanted, with_calls, AreMade}
 use Rattle.chv_defs_memory.specs.Zones.{Known}
 use Rattle.chv_ctl_mem.specs.BankChanges.{calls_made, is_in_zone, AreChanged, MayMake, MayMakeAll}
-use Rattle.chv_ctl_mem.proofs.ChangeLaws.{changed-by, changed-none, elsewhere, there}
+use Rattle.chv_ctl_mem.proofs.ChangeLaws.{changed-by, elsewhere, there}
 
 -- none
 pub made-none : (z b : ℕ) (known : Known) → calls_made [] z b known ≡ known

@@ -1,5 +1,5 @@
 -- Plans: what they want, when they may be made, and what they leave.
-use Rattle.std.proofs.Common.{◌≡◌, ℕ, ◌+◌, ◌-◌, ◌*◌, ◌<◌, ◌≤◌, zero, suc, Bool, true, false, List, [], ◌∷◌, length, map, max, Option, None, Some, Result, Ok, Err, refl, sym, ◌∙◌, ap, subst, arith}
+use Rattle.std.proofs.Common.{◌≡◌, ℕ, ◌+◌, ◌-◌, ◌*◌, ◌<◌, ◌≤◌, zero, suc, Bool, true, false, List, [], ◌∷◌, length, map, Option, None, Some, Result, Ok, Err, refl, sym, ◌∙◌, ap, subst, arith}
 use Rattle.std.specs.Prelude.{◌==◌, ◌&&◌, is_ok, slice_get, if◌then◌else◌, IfOk, OnErr, MatchResult}
 use Rattle.std.specs.List.{range_with_len}
 use Rattle.std.proofs.lemmas.Bool.Decides.{nat_tests}
@@ -21,7 +21,7 @@ use Rattle.chv_defs_control.specs.ApiStep.{is_paused}
 use Rattle.chv_defs_base.specs.declared.book.Full.{Full}
 use Rattle.chv_defs_control.specs.FullBooks.{book_in}
 use Rattle.chv_defs_control.specs.Machine.{HasChecked}
-use Rattle.chv_defs_control.specs.OwnerCalls.{calls_in, calls_where, owner_calls, room_refusal_for, wiping, zones_of, HaveTheCalls, IsLeft}
+use Rattle.chv_defs_control.specs.OwnerCalls.{calls_in, calls_where, owner_calls, room_refusal_for, zones_of, HaveTheCalls, IsLeft}
 use Rattle.chv_defs_memory.specs.declared.bank.BankCall.{BankCall}
 use Rattle.chv_defs_memory.specs.declared.bank.BankCall.TheVariants as call
 use Rattle.chv_defs_memory.specs.declared.bank.BankEntry.{BankEntry}
@@ -35,7 +35,7 @@ use Rattle.chv_defs_memory.specs.Zones.{book_of, first_due, most_zones, zone_ref
 use Rattle.chv_defs_memory.proofs.ZoneLaws.{first-due-none, map-range-same, thawed-by-thaw}
 use Rattle.chv_ctl_mem.specs.declared.plan.Plan.{Plan}
 use Rattle.chv_ctl_mem.specs.declared.plan.Plan.TheVariants as plan
-use Rattle.chv_ctl_mem.specs.BankChanges.{calls_made, is_for_frozen, is_in_zone, is_in_zone_below, more_places, plan_calls, plan_where, planned, refusal_below, AreChanged, HasRoom, IsReady, MayMake, MayMakeAll}
+use Rattle.chv_ctl_mem.specs.BankChanges.{calls_made, is_for_frozen, is_in_zone, is_in_zone_below, more_places, plan_calls, plan_where, planned, refusal_below, AreChanged, HasRoom, IsReady, MayMakeAll}
 use Rattle.chv_ctl_mem.specs.Plans.{plan_for, plan_refusal, wipe_for, HaveThePlan, IsOnlyFull, IsSame}
 use Rattle.chv_ctl_mem.specs.ZoneCalls.{unless_full, AreAsBefore, AreAtRest, IsAtRestSo}
 use Rattle.chv_ctl_mem.proofs.CallSteps.{with-calls-made}

@@ -1,5 +1,5 @@
 -- What a plan asks of the banks of the zones in effect, and what it leaves there.
-use Rattle.std.specs.Prelude.{ℕ, if◌then◌else◌, List, [], map, slice_get, Option, None, Some, Result, Ok, Err}
+use Rattle.std.specs.Prelude.{ℕ, if◌then◌else◌, [], map, slice_get, Option, None, Some, Result, Ok, Err}
 use Rattle.std.specs.List.{range_with_len}
 use Rattle.chv_defs_memory.specs.declared.bank.Refusal.{Refusal}
 use Rattle.chv_defs_control.specs.declared.machine.Machine.{Machine}

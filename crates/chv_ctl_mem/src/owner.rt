@@ -1,5 +1,5 @@
 // The owner's calls that a control call stands for.
-ghost use Rattle.std.specs.Prelude.{◌≡◌, ℕ, [], false, Option, IfOk, OnErr, MatchResult};
+ghost use Rattle.std.specs.Prelude.{◌≡◌, ℕ, [], false, Option, None, IsOk, IfOk, OnErr, MatchResult};
 ghost use Rattle.chv_defs_api.specs.declared.control.ControlCall.TheVariants.{Boot};
 ghost use Rattle.chv_defs_api.specs.declared.control.ControlReply.TheVariants.{Done};
 ghost use Rattle.chv_defs_memory.specs.declared.bank.Refusal as bank_refusal;
@@ -39,6 +39,8 @@ pub fn make_owner_calls<R: Copy, Z: Zones<R>>(
         (λ _. HaveTheCalls [] machine.now call.now reply.now (Z.known zones.old) (Z.known zones.new))
         (λ _. AreAsBefore (Z.known zones.old) (Z.known zones.new))) }
     ensures err { OnErr result (AreAsBefore (Z.known zones.old) (Z.known zones.new)) }
+    // A call that stands for no calls of the owner takes no memory.
+    ensures free { plan_for machine.now.life call.now reply.now ≡ None → IsOk result }
     ensures home { Z.lent zones.new ≡ [] }
     ensures books { Z.books zones.new ≡ Z.books zones.old }
 {

@@ -1,1 +1,2 @@
+pub mod CallsFor
 pub mod Leads

@@ -1,1 +1,3 @@
+pub mod GoingOn
+pub mod MadeLaws
 pub mod ZoneLaws

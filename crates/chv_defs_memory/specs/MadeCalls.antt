@@ -1,6 +1,6 @@
 -- Calls of the owner that are made one after another in a bank: what they leave of its history, how much room they want
 -- beforehand, and what is reserved between them.
-use Rattle.std.specs.Prelude.{◌≡◌, ℕ, ◌+◌, ◌==◌, ◌&&◌, Bool, max, if◌then◌else◌, List, [], ◌∷◌, ◌++◌, map, filter, sum_by, Option, None}
+use Rattle.std.specs.Prelude.{◌≡◌, ℕ, ◌==◌, ◌&&◌, max, if◌then◌else◌, List, [], ◌∷◌, ◌++◌, map, filter, sum_by, Option, None}
 use Rattle.std.specs.List.{range_with_len}
 use Rattle.chv_defs_memory.specs.declared.bank.BankCall.{BankCall}
 use Rattle.chv_defs_memory.specs.declared.bank.BankCall.TheVariants as call

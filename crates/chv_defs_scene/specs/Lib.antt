@@ -1,3 +1,4 @@
 pub mod ScenarioText
 pub mod SceneText
+pub mod ScriptReading
 pub mod ScriptText

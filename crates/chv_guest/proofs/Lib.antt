@@ -2,4 +2,5 @@ pub mod Entries
 pub mod KnownBanks
 pub mod OwnEntries
 pub mod Refusals
+pub mod SameBanks
 pub mod ZoneBanks

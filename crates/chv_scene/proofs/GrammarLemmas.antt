@@ -10,8 +10,8 @@ use Rattle.chv_defs_scene.specs.declared.scene.Asked.{Asked}
 use Rattle.chv_defs_scene.specs.declared.scene.Asked.TheVariants as asked
 use Rattle.chv_defs_base.specs.declared.rule.Reason.{Reason}
 use Rattle.chv_defs_base.specs.declared.rule.Reason.TheVariants.{UnknownWord, FieldCount, BadName}
-use Rattle.chv_num.proofs.Bases.{hex_base}
 use Rattle.chv_num.proofs.HexSpelling.{chosen}
+use Rattle.chv_num.proofs.PairBytes.{pairs_are_bytes, in_some}
 use Rattle.chv_scene.proofs.SpellingLemmas.{by_test, no_fault, unchanged, raw_is, scenario_spelled}
 use Rattle.chv_scene.proofs.FewLemmas.{scenario_few}
 
@@ -56,28 +56,6 @@ behind_feedless (b ∷ bytes) h =
 
 -- ---- bytes in pairs
 
--- whether each of them is a byte
-abbrev are_bytes : List ℕ → Bool
-are_bytes bytes = list_all (λ b. nat_lt b 256) bytes
-
-pair_is_byte : (high low : ℕ) → is_hex_digit high ≡ true → is_hex_digit low ≡ true → nat_lt (digit_value high * 16 + digit_value low) 256 ≡ true
-pair_is_byte high low h l =
-    let first = hex_base.value high h in
-    let second = hex_base.value low l in
-    lt-ltb _ 256 (omega (arith, first, second))
-
-one_more : (byte : ℕ) (found : Option (List ℕ)) (bytes : List ℕ) → nat_lt byte 256 ≡ true → option_map (λ bs. byte ∷ bs) found ≡ Some bytes → ((rest : List ℕ) → found ≡ Some rest → are_bytes rest ≡ true) → are_bytes bytes ≡ true
-one_more byte None bytes is e h = absurd (cc)
-one_more byte (Some rest) bytes is e h = let all : byte ∷ rest ≡ bytes = cc in subst (λ bs. are_bytes bs ≡ true) all (and_from _ _ is (h rest refl))
-
-pairs_are_bytes : (text bytes : List ℕ) → bytes_in text ≡ Some bytes → are_bytes bytes ≡ true
-pairs_are_bytes [] bytes e = let none : [] ≡ bytes = cc in subst (λ bs. are_bytes bs ≡ true) none refl
-pairs_are_bytes (high ∷ []) bytes e = absurd (cc)
-pairs_are_bytes (high ∷ low ∷ text) bytes e =
-    let found = chosen (is_hex_digit high && is_hex_digit low) _ bytes e in
-    let tests = and_parts (is_hex_digit high) (is_hex_digit low) found.0 in
-    one_more (digit_value high * 16 + digit_value low) (bytes_in text) bytes (pair_is_byte high low tests.0 tests.1) found.1 (pairs_are_bytes text)
-
 -- a text that is not empty
 of_some : (b : ℕ) (text : List ℕ) → bytes_of (b ∷ text) ≡ bytes_in (b ∷ text)
 of_some b text = let more : length (b ∷ text) ≡ 0 → ⊥ = λ e. omega arith in cond-false (length (b ∷ text) == 0) None (bytes_in (b ∷ text)) (ne_eqb (length (b ∷ text)) 0 more)
@@ -92,10 +70,6 @@ pairs_are_some (high ∷ []) bytes e = absurd (cc)
 pairs_are_some (high ∷ low ∷ text) bytes e =
     let found = chosen (is_hex_digit high && is_hex_digit low) _ bytes (sym (of_some high (low ∷ text)) ∙ e) in
     mapped_some (digit_value high * 16 + digit_value low) (bytes_in text) bytes found.1
-
-in_some : (text bytes : List ℕ) → bytes_of text ≡ Some bytes → bytes_in text ≡ Some bytes
-in_some [] bytes e = absurd (cc)
-in_some (b ∷ text) bytes e = sym (of_some b text) ∙ e
 
 -- ---- a line of a section
 

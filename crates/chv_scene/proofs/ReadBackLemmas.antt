@@ -1,14 +1,14 @@
 -- The text of a scenario is read as its sessions.
-use Rattle.std.proofs.Common.{◌≡◌, ℕ, ◌+◌, ◌/◌, ◌%◌, ◌<◌, ◌≤◌, ◌==◌, ◌&&◌, not, nat_lt, nat_le, Bool, true, false, cond, zero, suc, List, [], ◌∷◌, ◌++◌, length, flat_map, get_or, codes, Option, None, Some, Ok, Err, refl, sym, ◌∙◌, ap, append_assoc, arith}
-use Rattle.std.specs.Fmt.{digit_glyph}
+use Rattle.std.proofs.Common.{◌≡◌, ℕ, ◌+◌, ◌<◌, ◌≤◌, ◌==◌, ◌&&◌, not, nat_lt, nat_le, Bool, true, false, cond, List, [], ◌∷◌, ◌++◌, length, flat_map, codes, Option, None, Some, Ok, Err, refl, sym, ◌∙◌, ap, append_assoc, arith}
 use Rattle.std.specs.List.{list_all}
-use Rattle.std.proofs.lemmas.Bool.{agree_below_at, and_parts, and_from, or_from, cond-true, cond-false, ne_eqb, ltb-true, lt-ltb}
+use Rattle.std.proofs.lemmas.Bool.{and_parts, and_from, or_from, cond-true, cond-false, ne_eqb, ltb-true, lt-ltb}
 use Rattle.chv_defs_base.specs.Numbers.{is_hex_digit, pairs, bytes_of}
 use Rattle.chv_defs_scene.specs.ScenarioText.{Line, lines_of, onto_line, at_space, has_space, is_route_byte, is_route_name, Asks, named, put_name, raw_bytes, section_line, Sessions, with_request, with_session, of_sessions, section_part, top_part, read_lines, read_scenario, is_request, IsScenario}
 use Rattle.chv_defs_scene.specs.SceneText.{request_line, session_section}
 use Rattle.chv_defs_scene.specs.declared.scene.Asked.{Asked}
 use Rattle.chv_defs_scene.specs.declared.scene.Asked.TheVariants as asked
 use Rattle.chv_defs_base.specs.declared.rule.Reason.TheVariants.{BadName, FieldCount, TooMany}
+use Rattle.chv_num.proofs.PairBytes.{pairs_digits, byte_at}
 use Rattle.chv_num.proofs.PairSpelling.{pairs_read_back}
 use Rattle.chv_scene.proofs.GrammarLemmas.{no_feed, are_requests, all_requests}
 
@@ -76,23 +76,6 @@ name_no_feed name h = all_so is_route_byte (λ b. not (b == 10)) (λ b is. other
 
 name_no_space : (name : List ℕ) → is_route_name name ≡ true → no_space name ≡ true
 name_no_space name h = all_so is_route_byte (λ b. not (b == 32)) (λ b is. other_byte is_route_byte 32 b refl is) name (name_parts name h)
-
-glyph_digit : (d : ℕ) → d < 16 → is_hex_digit (digit_glyph false d) ≡ true
-glyph_digit d h = agree_below_at (λ d. is_hex_digit (digit_glyph false d)) (λ _. true) 16 d refl h
-
-pairs_digits : (bytes : List ℕ) → list_all (λ b. nat_lt b 256) bytes ≡ true → list_all is_hex_digit (pairs bytes) ≡ true
-pairs_digits [] h = refl
-pairs_digits (b ∷ bytes) h =
-    let parts = and_parts (nat_lt b 256) (list_all (λ b. nat_lt b 256) bytes) h in
-    let byte = ltb-true b 256 parts.0 in
-    let high : b / 16 < 16 = omega (arith, byte) in
-    let low : b % 16 < 16 = omega arith in
-    and_from _ _ (glyph_digit (b / 16) high) (and_from _ _ (glyph_digit (b % 16) low) (pairs_digits bytes parts.1))
-
-byte_at : (bytes : List ℕ) → list_all (λ b. nat_lt b 256) bytes ≡ true → (i : ℕ) → get_or bytes i 0 < 256
-byte_at [] h i = omega arith
-byte_at (b ∷ bytes) h zero = ltb-true b 256 (and_parts (nat_lt b 256) (list_all (λ b. nat_lt b 256) bytes) h).0
-byte_at (b ∷ bytes) h (suc i) = byte_at bytes (and_parts (nat_lt b 256) (list_all (λ b. nat_lt b 256) bytes) h).1 i
 
 -- ---- the line of a request
 

@@ -3,7 +3,7 @@ use crate::answers::{allocated, answer};
 use crate::escapes::bytes_of;
 use crate::numbers::number_or_none;
 use crate::words::found;
-use crate::{calls, configs, json, numbers, replies, scenes, streams};
+use crate::{calls, configs, json, numbers, replies, scenes, scripts, streams};
 use chv_json::{config_of, disk_of, resize_of, zone_of};
 use chv_num::{hex_of, read_dec, read_hex};
 use std::alloc::{AllocError, Global};
@@ -57,6 +57,7 @@ fn answer_to_text(alloc: Global, kind: &str, text: &[u8]) -> Option<Result<Strin
         "resize" => Some(answer(alloc, resize_of(alloc, text))),
         // The zone and the memory that a body asks for.
         "zone" => Some(answer(alloc, zone_of(alloc, text))),
+        "script" => Some(scripts::script(alloc, text)),
         "scene" => Some(scenes::scene(alloc, text)),
         _ => None,
     }

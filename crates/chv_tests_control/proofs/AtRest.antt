@@ -1,7 +1,6 @@
 -- Banks to which nothing happened yet are at rest.
 use Rattle.std.proofs.Common.{◌≡◌, ℕ, ◌<◌, ◌≤◌, Bool, true, false, [], ◌∷◌, Option, None, Some, refl, sym, subst, arith, length}
 use Rattle.std.specs.Prelude.{◌&&◌, nat_le}
-use Rattle.std.proofs.lemmas.List.FromFn.{get_or-map-range_with_len}
 use Rattle.std.proofs.lemmas.Bool.Decides.{nat_tests}
 use Rattle.chv_defs_memory.specs.declared.bank.BankCall.TheVariants as call
 use Rattle.chv_defs_memory.specs.declared.bank.BankReply.TheVariants as reply
@@ -10,14 +9,14 @@ use Rattle.chv_defs_control.specs.declared.machine.Machine.{Machine}
 use Rattle.chv_defs_control.specs.declared.machine.Life.{Life}
 use Rattle.chv_defs_control.specs.declared.machine.Life.TheVariants as life
 use Rattle.chv_defs_control.specs.ApiStep.{is_paused}
-use Rattle.chv_defs_memory.specs.BankBook.{BankBook, fresh}
 use Rattle.chv_defs_memory.specs.BankState.{banks}
 use Rattle.chv_defs_control.specs.Machine.{HasChecked, IsUnpaused}
 use Rattle.chv_defs_control.specs.OwnerCalls.{zones_in, zones_of}
 use Rattle.chv_defs_memory.specs.Zones.{Known}
-use Rattle.chv_guest.specs.LentBanks.{bank_at, bank_count, fresh_at, fresh_banks, known_at, place_of}
+use Rattle.chv_guest.specs.LentBanks.{fresh_banks, known_at}
+use Rattle.chv_guest.proofs.SameBanks.{fresh-known}
 use Rattle.chv_addr.proofs.Limits.{checked-within}
-use Rattle.chv_ctl_mem.specs.ZoneCalls.{AreAtRest, IsAtRest}
+use Rattle.chv_ctl_mem.specs.ZoneCalls.{AreAtRest, IsAtRestSo}
 
 first : (a b : Bool) → (a && b) ≡ true → a ≡ true
 first true b e = refl
@@ -31,15 +30,10 @@ few_zones (Some now) checked = at_most _ (first _ _ (checked-within now checked)
     at_most : (n : ℕ) → nat_le n 8 ≡ true → n ≤ 8
     at_most n e = grind (arith, nat_tests)
 
--- a bank to which nothing happened
-fresh_there : (z b : ℕ) → z < 8 → b < banks → bank_at fresh_banks z b ≡ fresh_at (place_of z b)
-fresh_there z b zone bank = get_or-map-range_with_len fresh_at 0 bank_count (place_of z b) (place_of z b) (fresh z b) (omega (arith, zone, bank)) (omega arith)
-
 pub fresh-at-rest : (m : Machine) → HasChecked m.config → AreAtRest false m (known_at fresh_banks)
 fresh-at-rest m checked z b zone bank =
-    let P : BankBook → Type 0 = λ book. IsAtRest false (record { history = book.history; entries = book.entries; pages = book.pages }) in
     let few = few_zones m.config checked in
-    subst P (sym (fresh_there z b (omega (arith, zone, few)) bank)) (record { frozen_so = refl; entries = refl; pages = refl })
+    subst (IsAtRestSo false) (sym (fresh-known z b (omega (arith, zone, few), bank))) (record { rest = refl; frozen_so = refl })
 
 -- no machine is paused so far
 pub unpaused : (l : Life) → IsUnpaused l → is_paused l ≡ false
@@ -63,5 +57,5 @@ frozen_bank = record {
 pub frozen-at-rest : (m : Machine) (known : ℕ → ℕ → Known) → length (zones_of m) ≡ 2 → ((z : ℕ) → z < 2 → known z 0 ≡ frozen_bank) → AreAtRest true m known
 frozen-at-rest m known two frozen z b zone bank =
     let lowest : b ≡ 0 = omega (arith, bank) in
-    subst (λ (b : ℕ). IsAtRest true (known z b)) (sym lowest)
-    (subst (IsAtRest true) (sym (frozen z (omega (arith, zone, two)))) (record { frozen_so = refl; entries = refl; pages = refl }))
+    subst (λ (b : ℕ). IsAtRestSo true (known z b)) (sym lowest)
+    (subst (IsAtRestSo true) (sym (frozen z (omega (arith, zone, two)))) (record { rest = refl; frozen_so = refl }))

@@ -4,7 +4,9 @@ ghost use Rattle.chv_defs_api.specs.Desks.{is_session_call};
 ghost use Rattle.chv_defs_control.specs.Machine.{IsWellFormed};
 
 use chv_ctl_api::api_step;
-use chv_defs_api::{Checked, ControlCall, ControlReply, CpuConfig, DiskConfig, OnShelf, VmConfig};
+use chv_defs_api::{
+    Checked, ControlCall, ControlReply, CpuConfig, DiskConfig, Goal, OnShelf, VmConfig,
+};
 use chv_defs_base::{Row, Rule, Text};
 use chv_defs_control::{Life, Machine};
 use chv_tests_samples::{name, plain_config, plain_disk};
@@ -86,6 +88,26 @@ fn is_answer(reply: &ControlReply, rule: Option<Rule>) -> bool {
     }
 }
 
+// Whether a call of session 2 is answered by this rule or none.
+fn answers(
+    alloc: Global,
+    machine: &mut Machine,
+    shelf: &Row<OnShelf>,
+    call: ControlCall,
+    rule: Option<Rule>,
+) -> Result<bool, AllocError>
+    requires formed { IsWellFormed machine.old }
+    requires call { is_session_call call ≡ true }
+    ensures { IsWellFormed machine.new }
+{
+    let given = api_step(alloc, machine, 2, shelf, &call);
+    drop(call);
+    let reply = given?;
+    let is_so = is_answer(&reply, rule);
+    drop(reply);
+    Ok(is_so)
+}
+
 // Whether a call of session 2 is answered by this rule or none, and leaves a machine with so many disks or none.
 fn leaves(
     alloc: Global,
@@ -99,11 +121,7 @@ fn leaves(
     requires call { is_session_call call ≡ true }
     ensures { IsWellFormed machine.new }
 {
-    let given = api_step(alloc, machine, 2, shelf, &call);
-    drop(call);
-    let reply = given?;
-    let is_so = is_answer(&reply, rule);
-    drop(reply);
+    let is_so = answers(alloc, machine, shelf, call, rule)?;
     Ok(is_so && has(alloc, machine, disks))
 }
 
@@ -174,6 +192,40 @@ fn steps_of_one_machine(rt: HostRuntime) -> Result<(), Fail> {
     let shelf = shelf(rt.alloc())?;
     let mut machine = nothing(rt.alloc());
     let came = steps(rt.alloc(), &mut machine, &shelf);
+    drop(machine);
+    drop(shelf);
+    came
+}
+
+// A machine that has no device boots, but not again, and is shut down, and deleted.
+fn boot(alloc: Global, machine: &mut Machine, shelf: &Row<OnShelf>) -> Result<(), Fail>
+    requires { IsWellFormed machine.old }
+{
+    let create = ControlCall::Create(plain_config(alloc));
+    step("create", answers(alloc, machine, shelf, create, None)?)?;
+    step(
+        "boot",
+        answers(alloc, machine, shelf, ControlCall::Boot, None)?,
+    )?;
+    step("boot: it runs", machine.life == Life::Running)?;
+    let again = Some(Rule::AlreadyBooted);
+    step(
+        "boot again",
+        answers(alloc, machine, shelf, ControlCall::Boot, again)?,
+    )?;
+    let shutdown = ControlCall::Begin(Goal::Shutdown);
+    step("shut down", answers(alloc, machine, shelf, shutdown, None)?)?;
+    step("shut down: the life", machine.life == Life::Shutdown)?;
+    let delete = ControlCall::Begin(Goal::Delete);
+    step("delete", answers(alloc, machine, shelf, delete, None)?)?;
+    step("delete: nothing is left", has(alloc, machine, None))
+}
+
+#[test]
+fn boot_of_one_machine(rt: HostRuntime) -> Result<(), Fail> {
+    let shelf = shelf(rt.alloc())?;
+    let mut machine = nothing(rt.alloc());
+    let came = boot(rt.alloc(), &mut machine, &shelf);
     drop(machine);
     drop(shelf);
     came

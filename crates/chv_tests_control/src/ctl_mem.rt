@@ -5,7 +5,7 @@ ghost use Rattle.chv_defs_memory.specs.Zones.{most_zones, OtherZonesStay};
 ghost use Rattle.chv_defs_memory.specs.declared.bank.BankCall.TheVariants as call;
 ghost use Rattle.chv_defs_memory.specs.declared.bank.BankReply.TheVariants as reply;
 ghost use Rattle.chv_defs_control.specs.declared.machine.Life.TheVariants as life;
-ghost use Rattle.chv_guest.specs.LentBanks.{fresh_banks, known_at};
+ghost use Rattle.chv_guest.specs.LentBanks.{fresh_zones, known_at};
 ghost use Rattle.std.specs.Prelude.{◌≡◌, ◌<◌, ℕ, [], ◌∷◌, true, length, IfOk};
 
 use crate::ctl_api::nothing;
@@ -99,7 +99,7 @@ fn is_wiped(history: &[BankEntry], is_in_effect: bool) -> bool {
 // A boot opens the blocks of the zones in effect, and leaves the banks of other zones.
 fn boot(machine: &Machine, zones: &mut LentBanks, first: u32, second: u32) -> Result<(), Fail>
     requires machine { IsWellFormed machine.now }
-    requires zones { zones.old ≡ fresh_banks }
+    requires zones { zones.old ≡ fresh_zones }
 {
     step("boot: done", boot_zones((), machine, zones)?.is_ok())?;
     step(
@@ -119,7 +119,7 @@ fn boot(machine: &Machine, zones: &mut LentBanks, first: u32, second: u32) -> Re
 // A wipe, as a machine that was created and never booted is deleted, is one entry there too.
 fn wipe(machine: &Machine, zones: &mut LentBanks, has_second: bool) -> Result<(), Fail>
     requires machine { IsWellFormed machine.now }
-    requires zones { zones.old ≡ fresh_banks }
+    requires zones { zones.old ≡ fresh_zones }
 {
     step("wipe: done", wipe_all((), machine, zones)?.is_ok())?;
     step("wipe: the first zone", is_wiped(zones.history(0, 0), true))?;
@@ -133,40 +133,45 @@ fn wipe(machine: &Machine, zones: &mut LentBanks, has_second: bool) -> Result<()
     )
 }
 
-// Makes room for two entries in a zone.
-fn has_room(zones: &mut LentBanks, zone: u8) -> Result<bool, AllocError>
+/// Makes room for so many entries in a zone.
+pub fn has_room(zones: &mut LentBanks, zone: u8, entries: u32) -> Result<bool, AllocError>
     requires zone { zone < most_zones }
-    requires fresh { known_at zones.old zone 0 ≡ record { history = []; entries = 0; pages = 0 } }
-    ensures made { IfOk result (λ made. made ≡ true → known_at zones.new zone 0 ≡ record { history = []; entries = 2; pages = 0 }) }
-    ensures others { OtherZonesStay (known_at zones.old) (known_at zones.new) zone }
+    requires home { zones.old.lent ≡ [] }
+    requires fresh { known_at zones.old.books zone 0 ≡ record { history = []; entries = 0; pages = 0 } }
+    ensures made { IfOk result (λ made. made ≡ true → known_at zones.new.books zone 0 ≡ record { history = []; entries = entries; pages = 0 }) }
+    ensures home { zones.new.lent ≡ [] }
+    ensures others { OtherZonesStay (known_at zones.old.books) (known_at zones.new.books) zone }
 {
-    Ok(zones.room((), zone, 2, 0)?.is_ok())
+    Ok(zones.room((), zone, entries, 0)?.is_ok())
 }
 
 // Freezes a bank, where a place is left for its Thaw.
 fn freeze(zones: &mut LentBanks, zone: u8)
     requires zone { zone < most_zones }
-    requires room { known_at zones.old zone 0 ≡ record { history = []; entries = 2; pages = 0 } }
-    ensures frozen { known_at zones.new zone 0 ≡ record {
+    requires home { zones.old.lent ≡ [] }
+    requires room { known_at zones.old.books zone 0 ≡ record { history = []; entries = 2; pages = 0 } }
+    ensures frozen { known_at zones.new.books zone 0 ≡ record {
       history = record { caller = 0; call = call.Freeze; reply = reply.Done } ∷ [];
       entries = 1;
       pages = 0;
     } }
-    ensures others { OtherZonesStay (known_at zones.old) (known_at zones.new) zone }
+    ensures home { zones.new.lent ≡ [] }
+    ensures others { OtherZonesStay (known_at zones.old.books) (known_at zones.new.books) zone }
 {
     drop(zones.owner((), zone, 0, &BankCall::Freeze));
 }
 
 // Freezes the banks of two zones.
 fn freeze_two(zones: &mut LentBanks) -> Result<bool, AllocError>
-    requires { zones.old ≡ fresh_banks }
-    ensures { IfOk result (λ done. done ≡ true → (z : ℕ) → z < 2 → known_at zones.new z 0 ≡ record {
+    requires { zones.old ≡ fresh_zones }
+    ensures home { zones.new.lent ≡ [] }
+    ensures frozen { IfOk result (λ done. done ≡ true → (z : ℕ) → z < 2 → known_at zones.new.books z 0 ≡ record {
       history = record { caller = 0; call = call.Freeze; reply = reply.Done } ∷ [];
       entries = 1;
       pages = 0;
     }) }
 {
-    if !has_room(zones, 0)? || !has_room(zones, 1)? {
+    if !has_room(zones, 0, 2)? || !has_room(zones, 1, 2)? {
         return Ok(false);
     }
     freeze(zones, 0);
@@ -174,8 +179,8 @@ fn freeze_two(zones: &mut LentBanks) -> Result<bool, AllocError>
     Ok(true)
 }
 
-// Whether two zones are in effect.
-fn has_two_zones(machine: &Machine) -> bool
+/// Whether two zones are in effect.
+pub fn has_two_zones(machine: &Machine) -> bool
     ensures { result ≡ true → length (zones_of machine.now) ≡ 2 }
 {
     match &machine.config {
@@ -203,7 +208,7 @@ fn is_thawed(history: &[BankEntry]) -> bool {
 fn wipe_paused(machine: &Machine, zones: &mut LentBanks) -> Result<(), Fail>
     requires checked { HasChecked machine.now.config }
     requires paused { machine.now.life ≡ life.Paused }
-    requires zones { zones.old ≡ fresh_banks }
+    requires zones { zones.old ≡ fresh_zones }
 {
     step("paused: two zones", has_two_zones(machine))?;
     step("paused: freeze", freeze_two(zones)?)?;
@@ -224,8 +229,8 @@ fn play_one(
     second: &mut LentBanks,
 ) -> Result<(), Fail>
     requires machine { IsWellFormed machine.old }
-    requires first { first.old ≡ fresh_banks }
-    requires second { second.old ≡ fresh_banks }
+    requires first { first.old ≡ fresh_zones }
+    requires second { second.old ≡ fresh_zones }
 {
     let shelf = Row::empty(alloc);
     create(alloc, machine, &shelf, plain_config(alloc))?;
@@ -243,8 +248,8 @@ fn memory_at_a_boot_and_at_a_wipe(rt: HostRuntime) -> Result<(), Fail> {
     came
 }
 
-// Creates a machine of two zones.
-fn create_two(alloc: Global, machine: &mut Machine) -> Result<(), AllocError>
+/// Creates a machine of two zones.
+pub fn create_two(alloc: Global, machine: &mut Machine) -> Result<(), AllocError>
     requires { IsWellFormed machine.old }
     ensures { IsWellFormed machine.new }
 {
@@ -262,9 +267,9 @@ fn play_two(
     third: &mut LentBanks,
 ) -> Result<(), Fail>
     requires machine { IsWellFormed machine.old }
-    requires first { first.old ≡ fresh_banks }
-    requires second { second.old ≡ fresh_banks }
-    requires third { third.old ≡ fresh_banks }
+    requires first { first.old ≡ fresh_zones }
+    requires second { second.old ≡ fresh_zones }
+    requires third { third.old ≡ fresh_zones }
 {
     create_two(alloc, machine)?;
     boot(machine, first, 2, 3)?;

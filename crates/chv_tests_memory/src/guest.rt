@@ -2,7 +2,7 @@
 ghost use Rattle.chv_defs_memory.specs.declared.bank.BankCall.TheVariants as call;
 ghost use Rattle.chv_defs_memory.specs.declared.bank.BankReply.TheVariants as reply;
 ghost use Rattle.chv_defs_memory.specs.Zones.{most_zones, OtherZonesStay};
-ghost use Rattle.chv_guest.specs.LentBanks.{fresh_banks, known_at};
+ghost use Rattle.chv_guest.specs.LentBanks.{fresh_zones, known_at};
 ghost use Rattle.std.specs.Prelude.{◌≡◌, ◌<◌, [], ◌∷◌, true, IfOk, length};
 
 use crate::pages::is_page;
@@ -17,9 +17,11 @@ use std::test::Fail;
 // Makes room for two entries in a zone, and for pages.
 fn has_room(zones: &mut LentBanks, zone: u8, pages: u32) -> Result<bool, AllocError>
     requires zone { zone < most_zones }
-    requires fresh { known_at zones.old zone 0 ≡ record { history = []; entries = 0; pages = 0 } }
-    ensures made { IfOk result (λ made. made ≡ true → known_at zones.new zone 0 ≡ record { history = []; entries = 2; pages = pages }) }
-    ensures others { OtherZonesStay (known_at zones.old) (known_at zones.new) zone }
+    requires home { zones.old.lent ≡ [] }
+    requires fresh { known_at zones.old.books zone 0 ≡ record { history = []; entries = 0; pages = 0 } }
+    ensures made { IfOk result (λ made. made ≡ true → known_at zones.new.books zone 0 ≡ record { history = []; entries = 2; pages = pages }) }
+    ensures home { zones.new.lent ≡ [] }
+    ensures others { OtherZonesStay (known_at zones.old.books) (known_at zones.new.books) zone }
 {
     Ok(zones.room((), zone, 2, pages)?.is_ok())
 }
@@ -27,9 +29,11 @@ fn has_room(zones: &mut LentBanks, zone: u8, pages: u32) -> Result<bool, AllocEr
 // Shapes the bank of a zone.
 fn shape(zones: &mut LentBanks, zone: u8) -> bool
     requires zone { zone < most_zones }
-    requires history { (known_at zones.old zone 0).history ≡ [] }
-    requires entries { (known_at zones.old zone 0).entries ≡ 2 }
-    ensures { known_at zones.new zone 0 ≡ record (known_at zones.old zone 0) {
+    requires home { zones.old.lent ≡ [] }
+    requires history { (known_at zones.old.books zone 0).history ≡ [] }
+    requires entries { (known_at zones.old.books zone 0).entries ≡ 2 }
+    ensures home { zones.new.lent ≡ [] }
+    ensures shaped { known_at zones.new.books zone 0 ≡ record (known_at zones.old.books zone 0) {
       history = record { caller = 0; call = call.Shape 256; reply = reply.Done } ∷ [];
       entries = 1;
     } }
@@ -51,7 +55,7 @@ fn is_shape(history: &[BankEntry]) -> bool {
 
 // A bank is shaped, and no other zone's. Then it is wiped.
 fn wiped(zones: &mut LentBanks) -> Result<(), Fail>
-    requires { zones.old ≡ fresh_banks }
+    requires { zones.old ≡ fresh_zones }
 {
     step("wipe: room", has_room(zones, 0, 0)?)?;
     step("wipe: shape", shape(zones, 0))?;
@@ -70,7 +74,7 @@ fn wiped(zones: &mut LentBanks) -> Result<(), Fail>
 
 // No room beyond the limit, which leaves room for one entry.
 fn filled_up(zones: &mut LentBanks) -> Result<(), Fail>
-    requires { zones.old ≡ fresh_banks }
+    requires { zones.old ≡ fresh_zones }
 {
     let full = Refusal::Full(Full {
         book: BookId::Bank { zone: 0, bank: 0 },
@@ -98,7 +102,7 @@ fn page_of_five(alloc: Global) -> Result<Bytes, AllocError>
 // Fills page 3 of the first block of the last zone.
 fn fill(zones: &mut LentBanks, bytes: Bytes) -> bool
     requires bytes { length bytes ≡ 4096 }
-    requires room { known_at zones.old 7 0 ≡ record {
+    requires room { known_at zones.old.books 7 0 ≡ record {
       history = record { caller = 0; call = call.Shape 256; reply = reply.Done } ∷ [];
       entries = 1;
       pages = 1;
@@ -123,7 +127,7 @@ fn lists_five(zones: &mut LentBanks) -> Result<bool, AllocError> {
 
 // A page is filled in the last zone and listed there, and in no other.
 fn filled(alloc: Global, zones: &mut LentBanks) -> Result<(), Fail>
-    requires { zones.old ≡ fresh_banks }
+    requires { zones.old ≡ fresh_zones }
 {
     step("fill: room", has_room(zones, 7, 1)?)?;
     step("fill: shape", shape(zones, 7))?;

@@ -1,7 +1,7 @@
-use Rattle.std.proofs.Common.{◌∙◌, ℕ, take, length, subst, sym, arith, rules}
+use Rattle.std.proofs.Common.{◌∙◌, take, subst, sym, arith, rules}
 use Rattle.std.proofs.lemmas.Bool.Decides.{nat_tests}
 use Rattle.chv_defs_memory.specs.Zones.{Known}
-use Rattle.chv_ctl_mem.specs.BankChanges.{calls_made, is_in_zone, AreChanged, MayMake}
+use Rattle.chv_ctl_mem.specs.BankChanges.{calls_made, is_in_zone, MayMake}
 use Rattle.chv_ctl_mem.proofs.CallSteps.{may-at, zone-begins, zone-goes-on}
 use Rattle.chv_ctl_mem.proofs.ChangeLaws.{there}
 use Rattle.chv_ctl_mem.proofs.each.make_calls.Goals as goal

@@ -1,7 +1,6 @@
-use Rattle.std.proofs.Common.{◌≡◌, ◌≤◌, ◌∙◌, ap, length, arith, rules, refl}
+use Rattle.std.proofs.Common.{◌∙◌, ap, arith, rules}
 use Rattle.std.proofs.lemmas.Grind.{common_steps}
 use Rattle.chv_defs_memory.specs.BankBook.{refused_or}
-use Rattle.chv_defs_memory.specs.Zones.{most_zones}
 use Rattle.chv_ctl_mem.proofs.PlanSteps.{all-ready, plan-due, plan-left}
 use Rattle.chv_ctl_mem.proofs.planned.carry_out.Goals as goal
 

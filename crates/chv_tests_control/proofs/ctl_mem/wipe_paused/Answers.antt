@@ -8,7 +8,7 @@ use Rattle.chv_tests_control.proofs.ctl_mem.wipe_paused.Goals as goal
 
 pub wipe_all-requires-clause-rest : goal.wipe_all-requires-clause-rest
 wipe_all-requires-clause-rest c =
-    let Q : Bool → Type 0 = λ frozen. AreAtRest frozen c.args.machine.now (known_at c.freeze_two.new.zones) in
-    let two : length (zones_of c.args.machine.now) ≡ 2 = c.has_two_zones.ensures cc in
-    let frozen : (z : ℕ) → z < 2 → known_at c.freeze_two.new.zones z 0 ≡ frozen_bank = c.in_ok-freeze_two.ensures cc in
-    subst Q (sym (ap is_paused c.requires.paused)) (frozen-at-rest c.args.machine.now (known_at c.freeze_two.new.zones) two frozen)
+    let Q : Bool → Type 0 = λ frozen. AreAtRest frozen c.args.machine.now (known_at c.freeze_two.new.zones.books) in
+    let two : length (zones_of c.args.machine.now) ≡ 2 = c.has_two_zones.ensures c.in_ok-step.ensures in
+    let frozen : (z : ℕ) → z < 2 → known_at c.freeze_two.new.zones.books z 0 ≡ frozen_bank = c.in_ok-freeze_two.ensures.frozen c.in_ok-step-2.ensures in
+    subst Q (sym (ap is_paused c.requires.paused)) (frozen-at-rest c.args.machine.now (known_at c.freeze_two.new.zones.books) two frozen)

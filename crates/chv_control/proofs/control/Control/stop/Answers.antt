@@ -6,7 +6,9 @@ use Rattle.chv_defs_api.specs.declared.control.ControlCall.TheVariants as call
 use Rattle.chv_defs_api.specs.declared.control.ControlReply.TheVariants as reply
 use Rattle.chv_defs_control.specs.ControlBook.{payload}
 use Rattle.chv_control.specs.Control.{IsKept}
+use Rattle.chv_control.specs.Rest.{AreKept}
 use Rattle.chv_control.proofs.Kept.{IsKept-stop, payload-stop}
+use Rattle.chv_control.proofs.KeptBanks.{AreKept-stop}
 use Rattle.chv_control.proofs.control.Control.stop.Goals as goal
 
 pub invariant_of-self : goal.invariant_of-self
@@ -20,4 +22,6 @@ invariant_of-self g c =
       c.self.invariant.1 ∙ sym (payload-stop c.args.caller history) ∙ ap payload (sym grown),
       grind (arith, common_steps),
       subst (λ (h : List ControlEntry). IsKept c.self.inside.shelf (record m { stopped = true }) h) (sym grown) (IsKept-stop c.self.inside.shelf m c.args.caller history c.self.invariant.3 going),
+      subst (λ (h : List ControlEntry). AreKept (record m { stopped = true }) h (g.Z.Banked.lent c.self.inside.zones) (g.Z.Banked.known c.self.inside.zones)) (sym grown)
+          (AreKept-stop c.self.inside.shelf m c.args.caller history (g.Z.Banked.lent c.self.inside.zones) (g.Z.Banked.known c.self.inside.zones) c.self.invariant.4 c.self.invariant.3.legal),
     )

@@ -1,0 +1,11 @@
+pub mod FieldLemmas
+pub mod GrammarLemmas
+pub mod InstructionLemmas
+pub mod KindLemmas
+pub mod LabelLemmas
+pub mod LawLemmas
+pub mod PartLemmas
+pub mod Printed
+pub mod PutLemmas
+pub mod ShapeLemmas
+pub mod StepLemmas

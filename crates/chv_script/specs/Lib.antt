@@ -1,0 +1,6 @@
+pub mod Answer
+pub mod Fields
+pub mod Labels
+pub mod Laws
+pub mod Reads
+pub mod Steps

@@ -1,0 +1,19 @@
+//! Scripts of vCPUs: read from their lines, each refusal with its line and reason, and printed.
+#![tactic(auto)]
+
+mod fields;
+mod kinds;
+mod labels;
+mod laws;
+mod lines;
+mod printing;
+mod reading;
+mod state;
+mod stop;
+
+pub use laws::{
+    printed_is_read_back, reads_exactly_the_scripts, refusal_names_the_first_fault,
+    script_has_one_spelling,
+};
+pub use printing::print;
+pub use reading::{ScriptFault, read};
