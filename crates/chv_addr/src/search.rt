@@ -6,15 +6,16 @@ ghost use Rattle.chv_addr.specs.Search.{next_run};
 
 use crate::{Place, Run};
 use chv_defs_base::BLOCK_BYTES;
+use chv_lists::{Stretch, locate};
 
 /// The run that holds an address.
 pub fn run_at(runs: &[Run], addr: u64) -> Option<Run>
     requires { AreInOrder 0 runs.now }
     ensures { result ≡ run_at runs.now addr }
 {
-    match next_run(runs, addr) {
-        Some(run) if run.addr <= addr => Some(run),
-        _ => None,
+    match locate(runs, addr) {
+        Ok(place) => Some(runs[place]),
+        Err(_) => None,
     }
 }
 
@@ -54,23 +55,34 @@ fn next_run(runs: &[Run], addr: u64) -> Option<Run>
     requires { AreInOrder 0 runs.now }
     ensures { result ≡ next_run runs.now addr }
 {
-    match runs.get(count_ended(runs, addr)) {
+    match runs.get(next_place(runs, addr)) {
         Some(run) => Some(*run),
         None => None,
     }
 }
 
-// How many runs end at an address or below it. They are the first ones.
-fn count_ended(runs: &[Run], addr: u64) -> usize
+// The place of the first run that ends above an address.
+fn next_place(runs: &[Run], addr: u64) -> usize
     requires { AreInOrder 0 runs.now }
     ensures { result ≡ prefix_len (λ run. nat_le (run.addr + run_bytes run) addr) runs.now }
 {
-    runs.partition_point(|run| ends_by(run, addr))
+    match locate(runs, addr) {
+        Ok(place) => place,
+        Err(place) => place,
+    }
 }
 
-// Whether a run ends at an address or below it.
-fn ends_by(run: &Run, addr: u64) -> bool
-    ensures { result ≡ nat_le (run.now.addr + run_bytes run.now) addr }
-{
-    run.addr <= addr && u64::from(run.count) * BLOCK_BYTES <= addr - run.addr
+// A run is the stretch of its addresses.
+impl Stretch for Run {
+    ghost start = { λ run. run.addr };
+
+    ghost end = { λ run. run.addr + run_bytes run };
+
+    fn begins_by(&self, at: u64) -> bool {
+        self.addr <= at
+    }
+
+    fn ends_by(&self, at: u64) -> bool {
+        self.addr <= at && u64::from(self.count) * BLOCK_BYTES <= at - self.addr
+    }
 }

@@ -1,6 +1,6 @@
 -- A closed block is not reached; what a block reads as after it was opened, and after a write.
 use Rattle.std.proofs.Common.{◌≡◌, ℕ, ◌+◌, ◌<◌, ◌≤◌, Bool, true, false, List, Option, None, Some, refl, sym, ◌∙◌, ap, subst, arith, length, take, add-one}
-use Rattle.std.specs.Prelude.{slice_index, not, ◌&&◌, ◌==◌, unwrap_or}
+use Rattle.std.specs.Prelude.{slice_get, slice_index, not, ◌&&◌, ◌==◌, unwrap_or}
 use Rattle.std.specs.List.{list_all}
 use Rattle.std.proofs.lemmas.Bool.Decides.{nat_tests}
 use Rattle.std.proofs.lemmas.List.FromFn.{get_or-map-range_with_len}
@@ -11,7 +11,7 @@ use Rattle.chv_defs_memory.specs.declared.bank.BankReply.TheVariants as reply
 use Rattle.chv_defs_memory.specs.declared.bank.BankEntry.{BankEntry}
 use Rattle.chv_defs_memory.specs.BankState.{names, if_named, blocks_of, is_open, says_open}
 use Rattle.chv_defs_memory.specs.LastByte.{last_byte, last_bytes, says_byte}
-use Rattle.chv_defs_memory.specs.LegalBank.{IsNext, IfAccess, IsAccess, fault_or, done_reply, first_closed}
+use Rattle.chv_defs_memory.specs.LegalBank.{IsLegal, IsNext, IfAccess, IsAccess, fault_or, done_reply, first_closed}
 use Rattle.chv_bank.specs.Laws.{opens, reaches, is_fault, is_close, puts, replaces, IsClosedAt, IsLastWritten, ClosedBlocksAreNotReached, OpenedBlocksAreZero, ReadsGiveTheLastWrite}
 use Rattle.chv_bank.proofs.Latest.{is_open-push, last_byte-push}
 use Rattle.chv_bank.proofs.Ranges.{none_passes}
@@ -124,16 +124,20 @@ byte_stays bank history block at byte from to inside written =
     written.later inside
     (λ m x low high there is. let kept = written.kept m x low high there in last_byte-push bank (take m history) x block at ∙ stays_put bank block at byte (last_byte bank (take m history) block at) x.call x.reply kept.0 kept.1 is)
 
-pub got_bytes : (o : Option ℕ) (bytes all : List ℕ) → reply.Got bytes ≡ fault_or o (reply.Got all) → bytes ≡ all
+got_bytes : (o : Option ℕ) (bytes all : List ℕ) → reply.Got bytes ≡ fault_or o (reply.Got all) → bytes ≡ all
 got_bytes None bytes all h = cc
 got_bytes (Some block) bytes all h = cc
 
-pub reads_last : ReadsGiveTheLastWrite
-reads_last bank history block offset len k byte from to caller bytes legal written there small =
+-- a Read that is done stands inside the history, and gives at each offset the byte of the entries before it
+pub read_gives : (bank : ℕ) (history : List BankEntry) (block offset len k to caller : ℕ) (bytes : List ℕ) → IsLegal bank history →
+    slice_get history to ≡ Some (record { caller = caller; call = call.Read block offset len; reply = reply.Got bytes }) → k < len → (to < length history) × (slice_index bytes k ≡ last_byte bank (take to history) block (offset + k))
+read_gives bank history block offset len k to caller bytes legal there small =
     let e : BankEntry = record { caller = caller; call = call.Read block offset len; reply = reply.Got bytes } in
     let next : IsNext bank (take to history) e = legal to e there in
-    let inside : to < length history = place_within history to e there in
     let read : bytes ≡ last_bytes bank (take to history) block offset len = got_bytes (first_closed bank (take to history) (call.Read block offset len)) bytes (last_bytes bank (take to history) block offset len) next.access.replied in
-    ap (λ xs. slice_index xs k) read
-    ∙ get_or-map-range_with_len (last_byte bank (take to history) block) offset len k (offset + k) 0 small refl
-    ∙ byte_stays bank history block (offset + k) byte from to (omega arith) written
+    (place_within history to e there, ap (λ xs. slice_index xs k) read ∙ get_or-map-range_with_len (last_byte bank (take to history) block) offset len k (offset + k) 0 small refl)
+
+pub reads_last : ReadsGiveTheLastWrite
+reads_last bank history block offset len k byte from to caller bytes legal written there small =
+    let given = read_gives bank history block offset len k to caller bytes legal there small in
+    given.1 ∙ byte_stays bank history block (offset + k) byte from to (omega (arith, given.0)) written

@@ -4,6 +4,7 @@ use Rattle.std.specs.Prelude.{not, ◌&&◌, ◌||◌, filter, find, cond, unwra
 use Rattle.std.specs.List.{list_all, list_any}
 use Rattle.std.specs.Option.{option_to_list}
 use Rattle.std.proofs.lemmas.List.Folds.{list_any-append}
+use Rattle.std.proofs.lemmas.Bool.{and_from, or_left, or_right, not-true}
 use Rattle.chv_defs_memory.specs.declared.bank.BankCall.{BankCall}
 use Rattle.chv_defs_memory.specs.declared.bank.BankCall.TheVariants as call
 use Rattle.chv_defs_memory.specs.declared.bank.BankReply.{BankReply}
@@ -15,7 +16,7 @@ use Rattle.chv_bank.specs.Laws.{IsHeldAt, overturns, PinnedBlocksStayOpen, Pinne
 use Rattle.chv_bank.proofs.Latest.{is_open-push, is_sealed-push}
 use Rattle.chv_bank.proofs.PinLists.{kept_by, pins_of-append}
 use Rattle.chv_bank.proofs.Ranges.{none_passes}
-use Rattle.chv_bank.proofs.Walks.{walk, take_snoc, each_named, not_true, not_not_true}
+use Rattle.chv_bank.proofs.Walks.{walk, take_snoc, each_named, not_not_true}
 
 -- the pin is outstanding: whatever test it passes, an outstanding pin passes
 abbrev pub IsOut : PinOut → List BankEntry → Type 0
@@ -25,14 +26,6 @@ pub record Holds (bank : ℕ) (pin : PinOut) (h : List BankEntry) : Type 0 where
   pub out : IsOut pin h
   pub opened : (block : ℕ) → names bank pin.span block ≡ true → is_open bank h block ≡ true
   pub sealed : (block : ℕ) → names bank pin.span block ≡ true → is_sealed bank h block ≡ false
-
-or_right : (a b : Bool) → b ≡ true → (a || b) ≡ true
-or_right true b h = refl
-or_right false b h = h
-
-or_left : (a b : Bool) → a ≡ true → (a || b) ≡ true
-or_left true b h = refl
-or_left false b h = cc
 
 any_filter : (p q : PinOut → Bool) (pins : List PinOut) → list_any p (filter q pins) ≡ list_any (λ pin. q pin && p pin) pins
 any_filter p q [] = refl
@@ -65,7 +58,7 @@ holds_made bank h pin next =
           ap (list_any p) (pins_of-append h e) ∙ list_any-append p (kept_by e (pins_of h)) (pin ∷ [])
           ∙ or_right (list_any p (kept_by e (pins_of h))) (p pin || false) (or_left (p pin) false passes);
       opened = λ block named. is_open-push bank h e block ∙ not_not_true (is_open bank h block) (each_named (λ k. not (not (is_open bank h k))) bank pin.span block named all);
-      sealed = λ block named. is_sealed-push bank h e block ∙ not_true (is_sealed bank h block) (each_named (λ k. not (is_sealed bank h k)) bank pin.span block named next.access.unsealed);
+      sealed = λ block named. is_sealed-push bank h e block ∙ not-true (is_sealed bank h block) (each_named (λ k. not (is_sealed bank h k)) bank pin.span block named next.access.unsealed);
     }
 
 -- ---- a later entry
@@ -101,7 +94,7 @@ stays_unsealed bank block h pin (call.Seal span) reply.Sealed seal out named sea
     not_named (names bank span block) true (is_sealed bank h block) false
     (λ there.
     let none : lowest_pinned bank (pins_of h) (blocks_in bank span) ≡ None = sealed_none bank (pins_of h) (lowest_pinned bank (pins_of h) (blocks_in bank span)) seal in
-    let free : list_any (pins_block bank block) (pins_of h) ≡ false = not_true (list_any (pins_block bank block) (pins_of h)) (each_named (λ k. not (list_any (pins_block bank k) (pins_of h))) bank span block there (none_passes (λ k. list_any (pins_block bank k) (pins_of h)) (blocks_in bank span) none)) in
+    let free : list_any (pins_block bank block) (pins_of h) ≡ false = not-true (list_any (pins_block bank block) (pins_of h)) (each_named (λ k. not (list_any (pins_block bank k) (pins_of h))) bank span block there (none_passes (λ k. list_any (pins_block bank k) (pins_of h)) (blocks_in bank span) none)) in
     let pinned : list_any (pins_block bank block) (pins_of h) ≡ true = out (pins_block bank block) named in
     cc)
     sealed
@@ -109,16 +102,12 @@ stays_unsealed bank block h pin (call.Unseal span) r seal out named sealed = nam
 stays_unsealed bank block h pin (call.Close span) reply.Closed seal out named sealed = named_false (names bank span block) (is_sealed bank h block) sealed
 stays_unsealed bank block h pin c r seal out named sealed = sealed
 
-and_both : (a b : Bool) → a ≡ true → b ≡ true → (a && b) ≡ true
-and_both true b h g = g
-and_both false b h g = cc
-
 pub holds_kept : (bank : ℕ) (h : List BankEntry) (pin : PinOut) (e : BankEntry) → IsNext bank h e → gives_back pin e ≡ false → Holds bank pin h → Holds bank pin (h ++ e ∷ [])
 holds_kept bank h pin e next kept holds = record {
   out = λ p passes.
       ap (list_any p) (pins_of-append h e) ∙ list_any-append p (kept_by e (pins_of h)) (option_to_list (pin_made e.caller e.call e.reply))
       ∙ or_left (list_any p (kept_by e (pins_of h))) (list_any p (option_to_list (pin_made e.caller e.call e.reply)))
-      (any_filter p (λ (x : PinOut). not (gives_back x e)) (pins_of h) ∙ holds.out (λ x. not (gives_back x e) && p x) (and_both (not (gives_back pin e)) (p pin) (ap not kept) passes));
+      (any_filter p (λ (x : PinOut). not (gives_back x e)) (pins_of h) ∙ holds.out (λ x. not (gives_back x e) && p x) (and_from (not (gives_back pin e)) (p pin) (ap not kept) passes));
   opened = λ block named. is_open-push bank h e block ∙ stays_open bank block h pin e.call e.reply next.condition holds.out (holds.opened block named) (holds.sealed block named);
   sealed = λ block named. is_sealed-push bank h e block ∙ stays_unsealed bank block h pin e.call e.reply next.seal holds.out named (holds.sealed block named);
 }

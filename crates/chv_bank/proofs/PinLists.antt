@@ -6,6 +6,7 @@ use Rattle.std.specs.Option.{option_to_list}
 use Rattle.std.proofs.lemmas.List.{append-nil}
 use Rattle.std.proofs.lemmas.List.Folds.{list_any-append}
 use Rattle.std.proofs.lemmas.Bool.Decides.{nat_tests}
+use Rattle.chv_lists.proofs.Bools.{and_false}
 use Rattle.chv_defs_memory.specs.declared.bank.BankCall.{BankCall}
 use Rattle.chv_defs_memory.specs.declared.bank.BankCall.TheVariants as call
 use Rattle.chv_defs_memory.specs.declared.bank.BankReply.{BankReply}
@@ -14,7 +15,6 @@ use Rattle.chv_defs_memory.specs.declared.bank.BankEntry.{BankEntry}
 use Rattle.chv_defs_memory.specs.BankState.{PinOut, pins_of, pin_made, is_unpin_of, gives_back, unless_given_back, has_pin}
 use Rattle.chv_defs_memory.specs.BankBook.{with_entry}
 use Rattle.chv_bank.specs.Caches.{pins_after}
-use Rattle.chv_bank.proofs.Sets.{and_false}
 
 -- the pins that an entry does not give back
 abbrev pub kept_by : BankEntry → List PinOut → List PinOut

@@ -2,15 +2,11 @@
 use Rattle.std.proofs.Common.{◌≡◌, ℕ, ◌+◌, ◌-◌, ◌<◌, ◌≤◌, Bool, true, false, List, [], ◌∷◌, None, Some, refl, ◌∙◌, ap, arith, suc, zero}
 use Rattle.std.specs.Prelude.{cond, not, ◌&&◌, if◌then◌else◌, filter, find}
 use Rattle.std.specs.List.{range_with_len, list_all}
-use Rattle.chv_defs_memory.specs.declared.bank.Span.{Span}
-use Rattle.chv_defs_memory.specs.BankState.{belongs, blocks_in}
+use Rattle.chv_defs_memory.specs.BankState.{belongs}
 
 -- the bank's blocks from one on and below another
 abbrev pub blocks_between : ℕ → ℕ → ℕ → List ℕ
 blocks_between bank low high = filter (belongs bank) (range_with_len low (high - low))
-
-pub blocks_in_is : (bank : ℕ) (span : Span) → blocks_in bank span ≡ blocks_between bank span.first (span.first + span.count)
-blocks_in_is bank span = ap (λ n. filter (belongs bank) (range_with_len span.first n)) (let e : span.count ≡ span.first + span.count - span.first = omega arith in e)
 
 chosen : (p : ℕ → Bool) (low : ℕ) (rest : List ℕ) (s t : Bool) → p low ≡ t → find p (cond s (low ∷ rest) rest) ≡ (if s && t then Some low else find p rest)
 chosen p low rest true true e = ap (λ b. cond b (Some low) (find p rest)) e
@@ -23,10 +19,7 @@ find_next p bank low high h =
     let more : high - low ≡ suc (high - (low + 1)) = omega arith in
     ap (λ n. find p (filter (belongs bank) (range_with_len low n))) more ∙ chosen p low (blocks_between bank (low + 1) high) (belongs bank low) (p low) refl
 
--- the search ends at a block that passes, goes on past one that does not or is another bank's, and ends with none
-pub find_here : (p : ℕ → Bool) (bank low high : ℕ) → low < high → belongs bank low ≡ true → p low ≡ true → find p (blocks_between bank low high) ≡ Some low
-find_here p bank low high h own e = find_next p bank low high h ∙ ap (λ b. if b && p low then Some low else find p (blocks_between bank (low + 1) high)) own ∙ ap (λ b. if b then Some low else find p (blocks_between bank (low + 1) high)) e
-
+-- the search goes on past a block that does not pass, or is another bank's
 pub find_past : (p : ℕ → Bool) (bank low high : ℕ) → low < high → p low ≡ false → find p (blocks_between bank low high) ≡ find p (blocks_between bank (low + 1) high)
 find_past p bank low high h e = find_next p bank low high h ∙ by (belongs bank low)
   where
@@ -36,11 +29,6 @@ find_past p bank low high h e = find_next p bank low high h ∙ by (belongs bank
 
 pub find_other : (p : ℕ → Bool) (bank low high : ℕ) → low < high → belongs bank low ≡ false → find p (blocks_between bank low high) ≡ find p (blocks_between bank (low + 1) high)
 find_other p bank low high h own = find_next p bank low high h ∙ ap (λ b. if b && p low then Some low else find p (blocks_between bank (low + 1) high)) own
-
-pub find_end : (p : ℕ → Bool) (bank low high : ℕ) → high ≤ low → find p (blocks_between bank low high) ≡ None
-find_end p bank low high h =
-    let none : high - low ≡ 0 = omega arith in
-    ap (λ n. find p (filter (belongs bank) (range_with_len low n))) none
 
 same_choice : (p q : ℕ → Bool) (low : ℕ) (rest : List ℕ) (s : Bool) → p low ≡ q low → find p rest ≡ find q rest → find p (cond s (low ∷ rest) rest) ≡ find q (cond s (low ∷ rest) rest)
 same_choice p q low rest true e f = ap (λ b. cond b (Some low) (find p rest)) e ∙ ap (λ o. cond (q low) (Some low) o) f

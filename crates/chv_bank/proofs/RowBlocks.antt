@@ -4,6 +4,8 @@ use Rattle.std.specs.Prelude.{cond, ◌==◌, ◌||◌, filter, find, map, min, 
 use Rattle.std.specs.List.{list_any}
 use Rattle.std.specs.Option.{option_map}
 use Rattle.std.proofs.lemmas.Bool.Decides.{nat_tests}
+use Rattle.std.proofs.lemmas.Bool.{or_right}
+use Rattle.chv_lists.proofs.Bools.{bool_eq}
 use Rattle.chv_defs_memory.specs.BankState.{PinOut, pins_block, lesser, lowest, lowest_pinned, lowest_pinner}
 use Rattle.chv_bank.specs.CallerPins.{CallerPins, AreRows, HoldPins, pins_by, has_pinned, first_pinner}
 
@@ -14,15 +16,6 @@ mine c pins = filter (λ (pin : PinOut). c == pin.caller) pins
 -- whether a row has a pin of a kind
 abbrev row_any : (PinOut → Bool) → CallerPins → Bool
 row_any p row = list_any p row.pins
-
-or_right : (a b : Bool) → b ≡ true → (a || b) ≡ true
-or_right true b h = refl
-or_right false b h = h
-
-both : (a b : Bool) → (a ≡ true → b ≡ true) → (b ≡ true → a ≡ true) → a ≡ b
-both true b f g = sym (f refl)
-both false true f g = g refl
-both false false f g = refl
 
 same_number : (n : ℕ) → (n == n) ≡ true
 same_number n = grind (arith, nat_tests)
@@ -178,7 +171,7 @@ row-mine p low (row ∷ rows) o h = by (list_any p row.pins) refl h (row-mine p 
 -- ---- rows that hold pins
 
 any-same : (p : PinOut → Bool) (rows : List CallerPins) (pins : List PinOut) → HoldPins rows pins → list_any (row_any p) rows ≡ list_any p pins
-any-same p rows pins h = both (list_any (row_any p) rows) (list_any p pins)
+any-same p rows pins h = bool_eq (list_any (row_any p) rows) (list_any p pins)
     (λ e. let there = row-mine p 0 rows h.ascend e in any-mine p there.0 pins (sym (ap (list_any p) (h.of_each there.0)) ∙ there.1))
     (λ e. let there = any-own p pins e in any-rows p rows there.0 (ap (list_any p) (h.of_each there.0) ∙ there.1))
 

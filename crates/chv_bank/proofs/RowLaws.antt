@@ -1,47 +1,23 @@
 -- Rows of pins, and what a change of one leaves.
-use Rattle.std.proofs.Common.{◌≡◌, ℕ, ◌+◌, ◌<◌, ◌≤◌, Bool, true, false, List, [], ◌∷◌, ◌++◌, Some, refl, sym, ◌∙◌, ap, arith, suc, zero, length, get_or, set}
-use Rattle.std.specs.Prelude.{cond, not, ◌==◌, ◌&&◌, nat_lt, filter, insert, slice_get}
-use Rattle.std.specs.List.{prefix_len}
-use Rattle.std.specs.List.Sorted.{IsNonDecreasingBy}
+use Rattle.std.proofs.Common.{◌≡◌, ℕ, ◌+◌, ◌<◌, ◌≤◌, Bool, true, false, List, [], ◌∷◌, ◌++◌, Result, Ok, Err, refl, sym, ◌∙◌, ap, subst, arith, suc, length, get_or, set}
+use Rattle.std.specs.Prelude.{cond, not, ◌==◌, ◌&&◌, nat_lt, filter, insert, MatchResult}
 use Rattle.std.proofs.lemmas.List.{append-nil, length_push}
-use Rattle.std.proofs.lemmas.List.Sorted.{IsNonDecreasingBy-from_all_adjacent}
 use Rattle.std.proofs.lemmas.List.Elements.{filter-append}
 use Rattle.std.proofs.lemmas.Bool.Decides.{nat_tests}
 use Rattle.chv_defs_memory.specs.BankState.{PinOut}
-use Rattle.chv_bank.specs.CallerPins.{CallerPins, AreRows, HoldPins, pins_by, total, is_row_of, with_pin, is_other, without_pin}
+use Rattle.chv_lists.specs.Locate.{locate, Follow}
+use Rattle.chv_lists.proofs.Located.{locate-cases}
+use Rattle.chv_bank.specs.CallerPins.{CallerPins, AreRows, HoldPins, pins_by, total, with_pin, is_other, without_pin}
 
 -- ---- rows ascend
 
-adjacent : (low : ℕ) (rows : List CallerPins) → AreRows low rows → (k : ℕ) (d : CallerPins) → k + 1 < length rows → (get_or rows k d).caller ≤ (get_or rows (k + 1) d).caller
-adjacent low [] o k d h = absurd (omega arith)
-adjacent low (row ∷ []) o k d h = absurd (omega arith)
-adjacent low (row ∷ next ∷ rows) o zero d h = omega (arith, o.1.0)
-adjacent low (row ∷ next ∷ rows) o (suc k) d h =
-    let e : suc k + 1 ≡ suc (k + 1) = omega arith in
-    let further : k + 1 < length (next ∷ rows) = omega arith in
-    rw e (adjacent (row.caller + 1) (next ∷ rows) o.1 k d further)
+pub rows-follow : (low : ℕ) (rows : List CallerPins) → AreRows low rows → Follow (λ (row : CallerPins). row.caller) (λ (row : CallerPins). row.caller + 1) low rows
+rows-follow low [] o = tt
+rows-follow low (row ∷ rows) o = (o.0, omega arith, rows-follow (row.caller + 1) rows o.1)
 
-pub callers-ascend : (rows : List CallerPins) → AreRows 0 rows → IsNonDecreasingBy (λ (row : CallerPins). row.caller) rows
-callers-ascend rows o = IsNonDecreasingBy-from_all_adjacent (λ (row : CallerPins). row.caller) rows (adjacent 0 rows o)
-
-at_least : (low : ℕ) (rows : List CallerPins) (place : ℕ) (row : CallerPins) → AreRows low rows → slice_get rows place ≡ Some row → low ≤ row.caller
-at_least low [] place row o at = cc
-at_least low (x ∷ rows) zero row o at =
-    let same : x ≡ row = cc in
-    omega (arith, o.0, ap (λ (r : CallerPins). r.caller) same)
-at_least low (x ∷ rows) (suc place) row o at = omega (arith, o.0, at_least (x.caller + 1) rows place row o.1 at)
-
--- the row that stands at a place is its caller's
-pub pins_by-at : (low : ℕ) (rows : List CallerPins) (place : ℕ) (row : CallerPins) (caller : ℕ) → AreRows low rows → slice_get rows place ≡ Some row → row.caller ≡ caller → pins_by rows caller ≡ row.pins
-pins_by-at low [] place row caller o at same = cc
-pins_by-at low (x ∷ rows) zero row caller o at same =
-    let here : x ≡ row = cc in
-    let mine : (x.caller == caller) ≡ true = (let e : x.caller ≡ row.caller = ap (λ (r : CallerPins). r.caller) here in grind (arith, nat_tests)) in
-    rw mine (ap (λ (r : CallerPins). r.pins) here)
-pins_by-at low (x ∷ rows) (suc place) row caller o at same =
-    let above : x.caller + 1 ≤ row.caller = at_least (x.caller + 1) rows place row o.1 at in
-    let other : (x.caller == caller) ≡ false = grind (arith, nat_tests) in
-    rw other (pins_by-at (x.caller + 1) rows place row caller o.1 at same)
+-- the place of a caller's row, or the place where it belongs
+abbrev pub located : List CallerPins → ℕ → Result ℕ ℕ
+located rows caller = locate (λ (row : CallerPins). row.caller) (λ (row : CallerPins). row.caller + 1) rows caller
 
 pins_by-above : (low : ℕ) (rows : List CallerPins) (caller : ℕ) → AreRows low rows → caller < low → pins_by rows caller ≡ []
 pins_by-above low [] caller o h = refl
@@ -50,62 +26,51 @@ pins_by-above low (x ∷ rows) caller o h =
     let other : (x.caller == caller) ≡ false = grind (arith, nat_tests) in
     rw other (pins_by-above (x.caller + 1) rows caller o.1 (omega arith))
 
--- the row that stands at a place
-pub row-at : (rows : List CallerPins) (place caller : ℕ) → is_row_of rows place caller ≡ true → (d : CallerPins) → (slice_get rows place ≡ Some (get_or rows place d)) × ((get_or rows place d).caller ≡ caller)
-row-at [] place caller h d = cc
-row-at (x ∷ rows) zero caller h d = (refl, grind (arith, nat_tests))
-row-at (x ∷ rows) (suc place) caller h d = row-at rows place caller h d
-
 -- ---- one more pin
 
-pub with-set : (low : ℕ) (rows : List CallerPins) (place : ℕ) (row : CallerPins) (pin : PinOut) → AreRows low rows → slice_get rows place ≡ Some row → row.caller ≡ pin.caller →
-    set rows place (record { caller = row.caller; pins = row.pins ++ pin ∷ [] }) ≡ with_pin rows pin
-with-set low [] place row pin o at same = cc
-with-set low (x ∷ rows) zero row pin o at same =
-    let here : x ≡ row = cc in
-    let mine : x.caller ≡ pin.caller = ap (λ (r : CallerPins). r.caller) here ∙ same in
-    let no : nat_lt x.caller pin.caller ≡ false = grind (arith, nat_tests) in
-    let yes : (x.caller == pin.caller) ≡ true = grind (arith, nat_tests) in
-    rw (no, yes) (ap (λ (r : CallerPins). let all : List CallerPins = record { caller = r.caller; pins = r.pins ++ pin ∷ [] } ∷ rows in all) (sym here))
-with-set low (x ∷ rows) (suc place) row pin o at same =
-    let above : x.caller + 1 ≤ row.caller = at_least (x.caller + 1) rows place row o.1 at in
-    let less : nat_lt x.caller pin.caller ≡ true = grind (arith, nat_tests) in
-    rw less (ap (λ (rest : List CallerPins). x ∷ rest) (with-set (x.caller + 1) rows place row pin o.1 at same))
+-- a row with one more pin, and a row of one
+abbrev pub more_of : CallerPins → PinOut → CallerPins
+more_of row pin = record { caller = row.caller; pins = row.pins ++ pin ∷ [] }
 
--- the same, of a row that was read before
-pub with-set-at : (items : List CallerPins) (place : ℕ) (was new : CallerPins) (pin : PinOut) → AreRows 0 items → is_row_of items place pin.caller ≡ true → was ≡ get_or items place was →
-    new ≡ record { caller = was.caller; pins = was.pins ++ pin ∷ [] } → set items place new ≡ with_pin items pin
-with-set-at items place was new pin o there is made =
-    let at = row-at items place pin.caller there was in
-    ap (set items place) made ∙ with-set 0 items place was pin o (at.0 ∙ ap Some (sym is)) (ap (λ (r : CallerPins). r.caller) is ∙ at.1)
+abbrev pub one_of : PinOut → CallerPins
+one_of pin = record { caller = pin.caller; pins = pin ∷ [] }
 
-pub with-insert : (rows : List CallerPins) (pin : PinOut) → is_row_of rows (prefix_len (λ (row : CallerPins). nat_lt row.caller pin.caller) rows) pin.caller ≡ false →
-    insert rows (prefix_len (λ (row : CallerPins). nat_lt row.caller pin.caller) rows) (record { caller = pin.caller; pins = pin ∷ [] }) ≡ with_pin rows pin
-with-insert [] pin none = refl
-with-insert (x ∷ rows) pin none = by (nat_lt x.caller pin.caller) none (with-insert rows pin)
+-- put into the row that is located, or as a row at that place
+with-located : (pin : PinOut) (d : CallerPins) (rows : List CallerPins) → MatchResult (located rows pin.caller)
+    (λ place. set rows place (more_of (get_or rows place d) pin) ≡ with_pin rows pin) (λ place. insert rows place (one_of pin) ≡ with_pin rows pin)
+with-located pin d rows = locate-cases (λ (row : CallerPins). row.caller) (λ (row : CallerPins). row.caller + 1) pin.caller
+    (λ all place. set all place (more_of (get_or all place d) pin) ≡ with_pin all pin) (λ all place. insert all place (one_of pin) ≡ with_pin all pin) refl here before found missed rows
   where
-    one : CallerPins
-    one = record { caller = pin.caller; pins = pin ∷ [] }
+    here : (x : CallerPins) (all : List CallerPins) → x.caller ≤ pin.caller → pin.caller < x.caller + 1 → more_of x pin ∷ all ≡ with_pin (x ∷ all) pin
+    here x all from below =
+        let no : nat_lt x.caller pin.caller ≡ false = grind (arith, nat_tests) in
+        let mine : (x.caller == pin.caller) ≡ true = grind (arith, nat_tests) in
+        rw (no, mine) refl
 
-    by : (b : Bool) → is_row_of (x ∷ rows) (cond b (1 + prefix_len (λ (row : CallerPins). nat_lt row.caller pin.caller) rows) 0) pin.caller ≡ false →
-        (is_row_of rows (prefix_len (λ (row : CallerPins). nat_lt row.caller pin.caller) rows) pin.caller ≡ false →
-        insert rows (prefix_len (λ (row : CallerPins). nat_lt row.caller pin.caller) rows) (record { caller = pin.caller; pins = pin ∷ [] }) ≡ with_pin rows pin) →
-        insert (x ∷ rows) (cond b (1 + prefix_len (λ (row : CallerPins). nat_lt row.caller pin.caller) rows) 0) (record { caller = pin.caller; pins = pin ∷ [] })
-        ≡ cond b (x ∷ with_pin rows pin) (cond (x.caller == pin.caller) (record { caller = x.caller; pins = x.pins ++ pin ∷ [] } ∷ rows) (record { caller = pin.caller; pins = pin ∷ [] } ∷ x ∷ rows))
-    by true g f =
-        let next : 1 + prefix_len (λ (row : CallerPins). nat_lt row.caller pin.caller) rows ≡ suc (prefix_len (λ (row : CallerPins). nat_lt row.caller pin.caller) rows) = omega arith in
-        ap (λ n. insert (x ∷ rows) n (record { caller = pin.caller; pins = pin ∷ [] })) next
-        ∙ ap (λ (rest : List CallerPins). x ∷ rest) (f (sym (ap (λ n. is_row_of (x ∷ rows) n pin.caller) next) ∙ g))
-    by false g f = rw g refl
+    before : (x : CallerPins) (all : List CallerPins) → pin.caller < x.caller → pin.caller < x.caller + 1 → one_of pin ∷ x ∷ all ≡ with_pin (x ∷ all) pin
+    before x all above below =
+        let no : nat_lt x.caller pin.caller ≡ false = grind (arith, nat_tests) in
+        let other : (x.caller == pin.caller) ≡ false = grind (arith, nat_tests) in
+        rw (no, other) refl
+
+    found : (x : CallerPins) (all : List CallerPins) (k : ℕ) → x.caller + 1 ≤ pin.caller → set all k (more_of (get_or all k d) pin) ≡ with_pin all pin → x ∷ set all k (more_of (get_or all k d) pin) ≡ with_pin (x ∷ all) pin
+    found x all k past f = let less : nat_lt x.caller pin.caller ≡ true = grind (arith, nat_tests) in rw less (ap (λ (rest : List CallerPins). x ∷ rest) f)
+
+    missed : (x : CallerPins) (all : List CallerPins) (k : ℕ) → x.caller + 1 ≤ pin.caller → insert all k (one_of pin) ≡ with_pin all pin → x ∷ insert all k (one_of pin) ≡ with_pin (x ∷ all) pin
+    missed x all k past f = let less : nat_lt x.caller pin.caller ≡ true = grind (arith, nat_tests) in rw less (ap (λ (rest : List CallerPins). x ∷ rest) f)
 
 -- the same, of rows that were read before
-pub with-insert-at : (items before read : List CallerPins) (place caller : ℕ) (pin : PinOut) (row : CallerPins) → caller ≡ pin.caller → before ≡ items → read ≡ items → place ≡ prefix_len (λ (row : CallerPins). nat_lt row.caller caller) before →
-    false ≡ is_row_of read place caller → row ≡ record { caller = pin.caller; pins = pin ∷ [] } → insert items place row ≡ with_pin items pin
-with-insert-at items before read place caller pin row mine e f at none one =
-    let where_ : place ≡ prefix_len (λ (row : CallerPins). nat_lt row.caller pin.caller) items = at ∙ ap (prefix_len (λ (row : CallerPins). nat_lt row.caller caller)) e ∙ ap (λ n. prefix_len (λ (row : CallerPins). nat_lt row.caller n) items) mine in
-    let stands : is_row_of items (prefix_len (λ (row : CallerPins). nat_lt row.caller pin.caller) items) pin.caller ≡ false =
-    sym (none ∙ ap (λ (rows : List CallerPins). is_row_of rows place caller) f ∙ ap (λ k. is_row_of items k caller) where_ ∙ ap (is_row_of items (prefix_len (λ (row : CallerPins). nat_lt row.caller pin.caller) items)) mine) in
-    ap (insert items place) one ∙ ap (λ k. insert items k (record { caller = pin.caller; pins = pin ∷ [] })) where_ ∙ with-insert items pin stands
+pub with-found : (items read : List CallerPins) (place : ℕ) (was new : CallerPins) (pin : PinOut) → read ≡ items → located read pin.caller ≡ Ok place → was ≡ get_or items place was → new ≡ more_of was pin → set items place new ≡ with_pin items pin
+with-found items read place was new pin e at is made =
+    let put : set items place (more_of (get_or items place was) pin) ≡ with_pin items pin =
+    subst (λ r. MatchResult r (λ k. set items k (more_of (get_or items k was) pin) ≡ with_pin items pin) (λ k. insert items k (one_of pin) ≡ with_pin items pin)) (sym (ap (λ rows. located rows pin.caller) e) ∙ at) (with-located pin was items) in
+    ap (set items place) (made ∙ ap (λ row. more_of row pin) is) ∙ put
+
+pub with-missed : (items read : List CallerPins) (place : ℕ) (row : CallerPins) (pin : PinOut) → read ≡ items → located read pin.caller ≡ Err place → row ≡ one_of pin → insert items place row ≡ with_pin items pin
+with-missed items read place row pin e at one =
+    let put : insert items place (one_of pin) ≡ with_pin items pin =
+    subst (λ r. MatchResult r (λ k. set items k (more_of (get_or items k row) pin) ≡ with_pin items pin) (λ k. insert items k (one_of pin) ≡ with_pin items pin)) (sym (ap (λ rows. located rows pin.caller) e) ∙ at) (with-located pin row items) in
+    ap (insert items place) one ∙ put
 
 pub rows-with : (low : ℕ) (rows : List CallerPins) (pin : PinOut) → AreRows low rows → low ≤ pin.caller → AreRows low (with_pin rows pin)
 rows-with low [] pin o from = (from, tt)
@@ -164,26 +129,6 @@ holds-with rows pins pin h = record {
 
 -- ---- without a pin
 
-pub without-set : (low : ℕ) (rows : List CallerPins) (place : ℕ) (row : CallerPins) (caller number : ℕ) → AreRows low rows → slice_get rows place ≡ Some row → row.caller ≡ caller →
-    set rows place (record { caller = row.caller; pins = filter (is_other caller number) row.pins }) ≡ without_pin rows caller number
-without-set low [] place row caller number o at same = cc
-without-set low (x ∷ rows) zero row caller number o at same =
-    let here : x ≡ row = cc in
-    let mine : x.caller ≡ caller = ap (λ (r : CallerPins). r.caller) here ∙ same in
-    let yes : (x.caller == caller) ≡ true = grind (arith, nat_tests) in
-    rw yes (ap (λ (r : CallerPins). let all : List CallerPins = record { caller = r.caller; pins = filter (is_other caller number) r.pins } ∷ rows in all) (sym here))
-without-set low (x ∷ rows) (suc place) row caller number o at same =
-    let above : x.caller + 1 ≤ row.caller = at_least (x.caller + 1) rows place row o.1 at in
-    let other : (x.caller == caller) ≡ false = grind (arith, nat_tests) in
-    rw other (ap (λ (rest : List CallerPins). x ∷ rest) (without-set (x.caller + 1) rows place row caller number o.1 at same))
-
--- the same, of a row that was read before
-pub without-set-at : (items : List CallerPins) (place : ℕ) (was new : CallerPins) (caller number : ℕ) → AreRows 0 items → is_row_of items place caller ≡ true → was ≡ get_or items place was →
-    new ≡ record { caller = was.caller; pins = filter (is_other caller number) was.pins } → set items place new ≡ without_pin items caller number
-without-set-at items place was new caller number o there is made =
-    let at = row-at items place caller there was in
-    ap (set items place) made ∙ without-set 0 items place was caller number o (at.0 ∙ ap Some (sym is)) (ap (λ (r : CallerPins). r.caller) is ∙ at.1)
-
 without-above : (low : ℕ) (rows : List CallerPins) (caller number : ℕ) → AreRows low rows → caller < low → without_pin rows caller number ≡ rows
 without-above low [] caller number o h = refl
 without-above low (x ∷ rows) caller number o h =
@@ -191,20 +136,56 @@ without-above low (x ∷ rows) caller number o h =
     let other : (x.caller == caller) ≡ false = grind (arith, nat_tests) in
     rw other (ap (λ (rest : List CallerPins). x ∷ rest) (without-above (x.caller + 1) rows caller number o.1 (omega arith)))
 
-pub without-none : (low : ℕ) (rows : List CallerPins) (caller number : ℕ) → AreRows low rows → is_row_of rows (prefix_len (λ (row : CallerPins). nat_lt row.caller caller) rows) caller ≡ false → without_pin rows caller number ≡ rows
-without-none low [] caller number o none = refl
-without-none low (x ∷ rows) caller number o none = by (nat_lt x.caller caller) refl none (without-none (x.caller + 1) rows caller number o.1)
+-- a row without a pin
+abbrev pub less_of : ℕ → ℕ → CallerPins → CallerPins
+less_of caller number row = record { caller = row.caller; pins = filter (is_other caller number) row.pins }
+
+-- taken out of the row that is located
+record Without (caller number : ℕ) (d : CallerPins) (rows : List CallerPins) (place : ℕ) : Type 0 where
+  pub out : set rows place (less_of caller number (get_or rows place d)) ≡ without_pin rows caller number
+  pub mine : pins_by rows caller ≡ (get_or rows place d).pins
+
+-- taken out where no row is located
+abbrev Nothing : ℕ → ℕ → List CallerPins → Type 0
+Nothing caller number rows = (low : ℕ) → AreRows low rows → without_pin rows caller number ≡ rows
+
+without-located : (caller number : ℕ) (d : CallerPins) (rows : List CallerPins) → MatchResult (located rows caller) (Without caller number d rows) (λ place. Nothing caller number rows)
+without-located caller number d rows = locate-cases (λ (row : CallerPins). row.caller) (λ (row : CallerPins). row.caller + 1) caller (Without caller number d) (λ all place. Nothing caller number all) (λ low o. refl) here before found missed rows
   where
-    by : (b : Bool) → nat_lt x.caller caller ≡ b → is_row_of (x ∷ rows) (cond b (1 + prefix_len (λ (row : CallerPins). nat_lt row.caller caller) rows) 0) caller ≡ false →
-        (is_row_of rows (prefix_len (λ (row : CallerPins). nat_lt row.caller caller) rows) caller ≡ false → without_pin rows caller number ≡ rows) →
-        without_pin (x ∷ rows) caller number ≡ x ∷ rows
-    by true e g f =
-        let next : 1 + prefix_len (λ (row : CallerPins). nat_lt row.caller caller) rows ≡ suc (prefix_len (λ (row : CallerPins). nat_lt row.caller caller) rows) = omega arith in
+    here : (x : CallerPins) (all : List CallerPins) → x.caller ≤ caller → caller < x.caller + 1 → Without caller number d (x ∷ all) 0
+    here x all from below =
+        let same : (x.caller == caller) ≡ true = grind (arith, nat_tests) in
+        record { out = rw same refl; mine = rw same refl }
+
+    before : (x : CallerPins) (all : List CallerPins) → caller < x.caller → caller < x.caller + 1 → Nothing caller number (x ∷ all)
+    before x all above below =
         let other : (x.caller == caller) ≡ false = grind (arith, nat_tests) in
-        rw other (ap (λ (rest : List CallerPins). x ∷ rest) (f (sym (ap (λ n. is_row_of (x ∷ rows) n caller) next) ∙ g)))
-    by false e g f =
-        let other : (x.caller == caller) ≡ false = g in
-        rw other (ap (λ (rest : List CallerPins). x ∷ rest) (without-above (x.caller + 1) rows caller number o.1 (grind (arith, nat_tests))))
+        λ low o. rw other (ap (λ (rest : List CallerPins). x ∷ rest) (without-above (x.caller + 1) all caller number o.1 below))
+
+    found : (x : CallerPins) (all : List CallerPins) (k : ℕ) → x.caller + 1 ≤ caller → Without caller number d all k → Without caller number d (x ∷ all) (suc k)
+    found x all k past f =
+        let other : (x.caller == caller) ≡ false = grind (arith, nat_tests) in
+        record { out = rw other (ap (λ (rest : List CallerPins). x ∷ rest) f.out); mine = rw other f.mine }
+
+    missed : (x : CallerPins) (all : List CallerPins) (k : ℕ) → x.caller + 1 ≤ caller → Nothing caller number all → Nothing caller number (x ∷ all)
+    missed x all k past f =
+        let other : (x.caller == caller) ≡ false = grind (arith, nat_tests) in
+        λ low o. rw other (ap (λ (rest : List CallerPins). x ∷ rest) (f (x.caller + 1) o.1))
+
+without-at : (items read : List CallerPins) (place : ℕ) (caller number : ℕ) (d : CallerPins) → read ≡ items → located read caller ≡ Ok place → Without caller number d items place
+without-at items read place caller number d e at =
+    subst (λ r. MatchResult r (Without caller number d items) (λ k. Nothing caller number items)) (sym (ap (λ rows. located rows caller) e) ∙ at) (without-located caller number d items)
+
+-- the same, of rows that were read before
+pub without-found : (items read : List CallerPins) (place : ℕ) (was new : CallerPins) (caller number : ℕ) → read ≡ items → located read caller ≡ Ok place → was ≡ get_or items place was → new ≡ less_of caller number was → set items place new ≡ without_pin items caller number
+without-found items read place was new caller number e at is made =
+    ap (set items place) (made ∙ ap (less_of caller number) is) ∙ (without-at items read place caller number was e at).out
+
+pub without-missed : (items read : List CallerPins) (place : ℕ) (caller number : ℕ) → AreRows 0 items → read ≡ items → located read caller ≡ Err place → without_pin items caller number ≡ items
+without-missed items read place caller number o e at =
+    let none : CallerPins = record { caller = 0; pins = [] } in
+    let same = subst (λ r. MatchResult r (Without caller number none items) (λ k. Nothing caller number items)) (sym (ap (λ rows. located rows caller) e) ∙ at) (without-located caller number none items) in
+    same 0 o
 
 pub rows-without : (low : ℕ) (rows : List CallerPins) (caller number : ℕ) → AreRows low rows → AreRows low (without_pin rows caller number)
 rows-without low [] caller number o = tt
@@ -224,15 +205,14 @@ total-without (x ∷ rows) caller number = by (x.caller == caller) (total-withou
     by true h = omega arith
     by false h = omega arith
 
--- the same, of a row that was read before
-pub total-set-at : (items : List CallerPins) (place : ℕ) (was new : CallerPins) (caller number gone : ℕ) → AreRows 0 items → is_row_of items place caller ≡ true → was ≡ get_or items place was →
-    new ≡ record { caller = was.caller; pins = filter (is_other caller number) was.pins } → gone + length new.pins ≡ length was.pins → gone + total (set items place new) ≡ total items
-total-set-at items place was new caller number gone o there is made count =
-    let at = row-at items place caller there was in
-    let mine : pins_by items caller ≡ was.pins = pins_by-at 0 items place was caller o (at.0 ∙ ap Some (sym is)) (ap (λ (r : CallerPins). r.caller) is ∙ at.1) in
+-- the same, of rows that were read before
+pub total-found : (items read : List CallerPins) (place : ℕ) (was new : CallerPins) (caller number gone : ℕ) → read ≡ items → located read caller ≡ Ok place → was ≡ get_or items place was →
+    new ≡ less_of caller number was → gone + length new.pins ≡ length was.pins → gone + total (set items place new) ≡ total items
+total-found items read place was new caller number gone e at is made count =
+    let mine : pins_by items caller ≡ was.pins = (without-at items read place caller number was e at).mine ∙ sym (ap (λ (r : CallerPins). r.pins) is) in
     let all : length (pins_by items caller) ≡ length was.pins = ap length mine in
     let left : length (filter (is_other caller number) (pins_by items caller)) ≡ length new.pins = ap (λ (ps : List PinOut). length (filter (is_other caller number) ps)) mine ∙ sym (ap (λ (r : CallerPins). length r.pins) made) in
-    let after : total (set items place new) ≡ total (without_pin items caller number) = ap total (without-set-at items place was new caller number o there is made) in
+    let after : total (set items place new) ≡ total (without_pin items caller number) = ap total (without-found items read place was new caller number e at is made) in
     omega (arith, total-without items caller number, all, left, after, count)
 
 pub pins_by-without : (rows : List CallerPins) (caller number c : ℕ) → pins_by (without_pin rows caller number) c ≡ cond (c == caller) (filter (is_other caller number) (pins_by rows c)) (pins_by rows c)

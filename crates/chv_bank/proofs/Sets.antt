@@ -1,8 +1,9 @@
 -- Sets after numbers were put in or taken out.
-use Rattle.std.proofs.Common.{◌≡◌, ℕ, ◌<◌, Bool, true, false, refl, sym, ◌∙◌, ap, arith, length, zero-add}
+use Rattle.std.proofs.Common.{◌≡◌, ℕ, ◌<◌, Bool, true, false, ◌∙◌, ap, arith, length, zero-add}
 use Rattle.std.specs.Prelude.{not, ◌==◌, ◌||◌, ◌&&◌, nat_lt}
 use Rattle.std.proofs.lemmas.List.FromFn.{get_or-map-range_with_len, length-map-range_with_len}
 use Rattle.std.proofs.lemmas.Bool.Decides.{nat_tests}
+use Rattle.chv_lists.proofs.Bools.{and_false, and_true, bool_eq, or_false, or_true}
 use Rattle.chv_defs_memory.specs.declared.bank.Span.{Span}
 use Rattle.chv_defs_memory.specs.BlockSets.{Blocks, has, numbers_where, is_within, with_span, without_span}
 
@@ -29,27 +30,6 @@ pub without_span-has : (size : ℕ) (old new : Blocks) (span : Span) (k : ℕ) �
 without_span-has size old new span k e f h =
     let small : k < length old = omega arith in
     ap (λ set. has set k) f ∙ has-numbers_where (length old) (λ j. has old j && not (is_within span j)) k small
-
-pub or_true : (a : Bool) → (a || true) ≡ true
-or_true true = refl
-or_true false = refl
-
-pub or_false : (a : Bool) → (a || false) ≡ a
-or_false true = refl
-or_false false = refl
-
-pub and_false : (a : Bool) → (a && false) ≡ false
-and_false true = refl
-and_false false = refl
-
-pub and_true : (a : Bool) → (a && true) ≡ a
-and_true true = refl
-and_true false = refl
-
-pub bool_eq : (a b : Bool) → (a ≡ true → b ≡ true) → (b ≡ true → a ≡ true) → a ≡ b
-bool_eq true b f g = sym (f refl)
-bool_eq false true f g = g refl
-bool_eq false false f g = refl
 
 within_all : (size k : ℕ) → k < size → is_within (record { first = 0; count = size }) k ≡ true
 within_all size k h = grind (arith, nat_tests)

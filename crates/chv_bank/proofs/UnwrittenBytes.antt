@@ -1,19 +1,17 @@
 -- What was not written since its block was opened reads as 0.
-use Rattle.std.proofs.Common.{◌≡◌, ℕ, ◌+◌, ◌<◌, ◌≤◌, Bool, true, false, List, None, refl, ◌∙◌, ap, arith, length, take, add-one}
-use Rattle.std.specs.Prelude.{slice_index, unwrap_or}
-use Rattle.std.proofs.lemmas.List.FromFn.{get_or-map-range_with_len}
+use Rattle.std.proofs.Common.{◌≡◌, ℕ, ◌+◌, ◌≤◌, Bool, true, false, List, None, refl, ◌∙◌, ap, arith, length, take, add-one}
+use Rattle.std.specs.Prelude.{unwrap_or}
 use Rattle.chv_defs_memory.specs.declared.bank.BankCall.{BankCall}
 use Rattle.chv_defs_memory.specs.declared.bank.BankCall.TheVariants as call
 use Rattle.chv_defs_memory.specs.declared.bank.BankReply.{BankReply}
 use Rattle.chv_defs_memory.specs.declared.bank.BankReply.TheVariants as reply
 use Rattle.chv_defs_memory.specs.declared.bank.BankEntry.{BankEntry}
 use Rattle.chv_defs_memory.specs.BankState.{names, if_named}
-use Rattle.chv_defs_memory.specs.LastByte.{last_byte, last_bytes, says_byte}
-use Rattle.chv_defs_memory.specs.LegalBank.{IsNext, first_closed}
+use Rattle.chv_defs_memory.specs.LastByte.{last_byte, says_byte}
 use Rattle.chv_bank.specs.Laws.{puts, IsUnwritten, UnwrittenBytesAreZero}
-use Rattle.chv_bank.proofs.ByteLaws.{opened_zero, got_bytes}
+use Rattle.chv_bank.proofs.ByteLaws.{opened_zero, read_gives}
 use Rattle.chv_bank.proofs.Latest.{last_byte-push}
-use Rattle.chv_bank.proofs.Walks.{walk, place_within}
+use Rattle.chv_bank.proofs.Walks.{walk}
 
 zero_or_kept : (n : Bool) (old : ℕ) → old ≡ 0 → unwrap_or (if_named n 0) old ≡ 0
 zero_or_kept true old e = refl
@@ -37,10 +35,5 @@ zero_at bank history block at from to inside is =
 
 pub unwritten_zero : UnwrittenBytesAreZero
 unwritten_zero bank history block offset len k from to caller bytes legal is there small =
-    let e : BankEntry = record { caller = caller; call = call.Read block offset len; reply = reply.Got bytes } in
-    let next : IsNext bank (take to history) e = legal to e there in
-    let inside : to < length history = place_within history to e there in
-    let read : bytes ≡ last_bytes bank (take to history) block offset len = got_bytes (first_closed bank (take to history) (call.Read block offset len)) bytes (last_bytes bank (take to history) block offset len) next.access.replied in
-    ap (λ xs. slice_index xs k) read
-    ∙ get_or-map-range_with_len (last_byte bank (take to history) block) offset len k (offset + k) 0 small refl
-    ∙ zero_at bank history block (offset + k) from to (omega arith) is
+    let given = read_gives bank history block offset len k to caller bytes legal there small in
+    given.1 ∙ zero_at bank history block (offset + k) from to (omega (arith, given.0)) is

@@ -68,10 +68,6 @@ each_named p bank span block named h =
     let high : block < span.first + span.count = (let e : nat_lt block (span.first + span.count) ≡ true = and_right (nat_le span.first block) (nat_lt block (span.first + span.count)) inside in grind (arith, nat_tests)) in
     in_range p bank block span.first span.count h own low high
 
-pub not_true : (b : Bool) → not b ≡ true → b ≡ false
-not_true true h = cc
-not_true false h = refl
-
 pub not_not_true : (b : Bool) → not (not b) ≡ true → b ≡ true
 not_not_true true h = refl
 not_not_true false h = cc

@@ -1,7 +1,7 @@
 -- How the outstanding pins are kept: those of each caller in a row of their own.
-use Rattle.std.specs.Prelude.{◌≡◌, ℕ, ◌+◌, ◌≤◌, ◌==◌, ◌&&◌, Bool, false, not, nat_lt, if◌then◌else◌, List, [], ◌∷◌, ◌++◌, length, filter, find, slice_get, unwrap_or}
+use Rattle.std.specs.Prelude.{◌≡◌, ℕ, ◌+◌, ◌≤◌, ◌==◌, ◌&&◌, Bool, not, nat_lt, if◌then◌else◌, List, [], ◌∷◌, ◌++◌, length, filter, find, unwrap_or}
 use Rattle.std.specs.List.{list_any}
-use Rattle.std.specs.Option.{option_map, option_map_or}
+use Rattle.std.specs.Option.{option_map}
 use Rattle.chv_defs_memory.specs.BankState.{PinOut, pins_block}
 
 -- a caller, and its outstanding pins in the order in which they were made
@@ -31,10 +31,6 @@ pub record HoldPins (rows : List CallerPins) (pins : List PinOut) : Type 0 where
   pub counted : total rows ≡ length pins
 
 -- ---- changes
-
--- whether the caller's row stands at the place
-abbrev pub is_row_of : List CallerPins → ℕ → ℕ → Bool
-is_row_of rows place caller = option_map_or (λ (row : CallerPins). row.caller == caller) (slice_get rows place) false
 
 -- with one more pin, the last one of its caller
 abbrev pub with_pin : List CallerPins → PinOut → List CallerPins

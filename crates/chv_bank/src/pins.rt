@@ -1,12 +1,13 @@
 // The outstanding pins.
-ghost use Rattle.std.specs.Prelude.{◌≡◌, ◌+◌, ◌<◌, ◌≤◌, ◌^◌, ◌==◌, ◌&&◌, [], ◌++◌, ◌∷◌, not, length, find, filter, nat_lt, IfOk, OnOk, OnErr, vec_len};
-ghost use Rattle.std.specs.List.{list_any, prefix_len};
+ghost use Rattle.std.specs.Prelude.{◌≡◌, ◌+◌, ◌<◌, ◌≤◌, ◌^◌, ◌==◌, ◌&&◌, [], ◌++◌, ◌∷◌, not, length, find, filter, IfOk, OnOk, OnErr, vec_len};
+ghost use Rattle.std.specs.List.{list_any};
 ghost use Rattle.std.specs.Option.{option_map};
 ghost use Rattle.chv_defs_memory.specs.BankState.{pins_block, PinOut};
-ghost use Rattle.chv_bank.specs.CallerPins.{first_pinner, has_pinned, is_other, is_row_of, total, with_pin, without_pin, AreRows, CallerPins};
+ghost use Rattle.chv_bank.specs.CallerPins.{first_pinner, has_pinned, is_other, total, with_pin, without_pin, AreRows, CallerPins};
 
 use crate::blocks::belongs;
 use chv_defs_memory::Span;
+use chv_lists::{Stretch, locate};
 use std::alloc::{AllocError, Global};
 use std::marker::Model;
 
@@ -227,27 +228,18 @@ fn first_caller(rows: &[PinRow], bank: u8, block: u32) -> Option<u32>
     None
 }
 
-// How many rows are of lower callers. They are the first ones.
-fn count_below(rows: &[PinRow], caller: u32) -> usize
-    requires { AreRows 0 rows.now }
-    ensures { result ≡ prefix_len (λ (row : CallerPins). nat_lt row.caller caller) rows.now }
-{
-    rows.partition_point(|row| is_below(row, caller))
-}
+// A row is the stretch of its caller alone.
+impl Stretch for PinRow {
+    ghost start = { λ row. row.caller };
 
-fn is_below(row: &PinRow, caller: u32) -> bool
-    ensures { result ≡ nat_lt row.now.caller caller }
-{
-    row.caller < caller
-}
+    ghost end = { λ row. row.caller + 1 };
 
-// Whether the caller's row stands at the place.
-fn is_row_of(rows: &[PinRow], place: usize, caller: u32) -> bool
-    ensures { result ≡ is_row_of rows.now place caller }
-{
-    match rows.get(place) {
-        Some(row) => row.caller == caller,
-        None => false,
+    fn begins_by(&self, at: u64) -> bool {
+        self.caller as u64 <= at
+    }
+
+    fn ends_by(&self, at: u64) -> bool {
+        (self.caller as u64) < at
     }
 }
 
@@ -258,13 +250,13 @@ fn add_pin(alloc: Global, rows: &mut Vec<PinRow>, pin: Pinned) -> Result<(), All
     ensures err { OnErr result (rows.new.items ≡ rows.old.items) }
 {
     let caller = pin.caller();
-    let place = count_below(rows.as_slice(), caller);
-    if is_row_of(rows.as_slice(), place, caller) {
-        rows[place].add(pin)
-    } else {
-        let row = PinRow::of(alloc, pin)?;
-        rows.insert(place, row)?;
-        Ok(())
+    match locate(rows.as_slice(), caller as u64) {
+        Ok(place) => rows[place].add(pin),
+        Err(place) => {
+            let row = PinRow::of(alloc, pin)?;
+            rows.insert(place, row)?;
+            Ok(())
+        }
     }
 }
 
@@ -274,10 +266,8 @@ fn take_pin(rows: &mut Vec<PinRow>, caller: u32, number: u32) -> usize
     ensures rows { rows.new.items ≡ without_pin rows.old.items caller number }
     ensures fewer { result + total rows.new.items ≡ total rows.old.items }
 {
-    let place = count_below(rows.as_slice(), caller);
-    if is_row_of(rows.as_slice(), place, caller) {
-        rows[place].remove(caller, number)
-    } else {
-        0
+    match locate(rows.as_slice(), caller as u64) {
+        Ok(place) => rows[place].remove(caller, number),
+        Err(_) => 0,
     }
 }

@@ -3,21 +3,20 @@ use Rattle.std.proofs.Common.{◌≡◌, ℕ, ◌≤◌, Bool, true, false, List
 use Rattle.std.specs.Prelude.{filter, map}
 use Rattle.std.specs.List.{list_any, list_all, cons_option}
 use Rattle.std.specs.Str.{bytes_eq}
-use Rattle.std.proofs.lemmas.Bool.{and_from, and_parts}
+use Rattle.std.proofs.lemmas.Bool.{and_from, and_parts, or_parts, or_from}
 use Rattle.std.proofs.lemmas.List.Folds.{list_any-append}
 use Rattle.chv_defs_api.specs.declared.config.DiskConfig.{DiskConfig}
 use Rattle.chv_defs_api.specs.ConfigRules.{disk_name, given_ids, has_text, has_twice}
-use Rattle.chv_config.proofs.Kept.{or_false_both, or_false_parts}
 
 -- what holds of no disk holds of none that is left
 pub list_any-filter : (test keep : DiskConfig → Bool) (disks : List DiskConfig) → list_any test disks ≡ false → list_any test (filter keep disks) ≡ false
 list_any-filter test keep [] none = refl
 list_any-filter test keep (disk ∷ disks) none =
-    let parts : (test disk ≡ false) × (list_any test disks ≡ false) = or_false_parts (test disk) (list_any test disks) none in
+    let parts : (test disk ≡ false) × (list_any test disks ≡ false) = or_parts (test disk) (list_any test disks) none in
     by (keep disk) parts.0 (list_any-filter test keep disks parts.1)
   where
     by : (b : Bool) → test disk ≡ false → list_any test (filter keep disks) ≡ false → list_any test (cond b (disk ∷ filter keep disks) (filter keep disks)) ≡ false
-    by true here rest = or_false_both (test disk) (list_any test (filter keep disks)) here rest
+    by true here rest = or_from (test disk) (list_any test (filter keep disks)) here rest
     by false here rest = rest
 
 -- what holds of each disk holds of each that is left
@@ -42,13 +41,13 @@ length-filter-le keep (disk ∷ disks) = by (keep disk) (length-filter-le keep d
 
 -- without one text, still none stands twice
 has_twice-drop : (xs ys : List (List ℕ)) (x : List ℕ) → has_twice (xs ++ x ∷ ys) ≡ false → has_twice (xs ++ ys) ≡ false
-has_twice-drop [] ys x once = (or_false_parts (has_text ys x) (has_twice ys) once).1
+has_twice-drop [] ys x once = (or_parts (has_text ys x) (has_twice ys) once).1
 has_twice-drop (z ∷ zs) ys x once =
-    let parts : (has_text (zs ++ x ∷ ys) z ≡ false) × (has_twice (zs ++ x ∷ ys) ≡ false) = or_false_parts (has_text (zs ++ x ∷ ys) z) (has_twice (zs ++ x ∷ ys)) once in
-    let among : (has_text zs z ≡ false) × (has_text (x ∷ ys) z ≡ false) = or_false_parts (has_text zs z) (has_text (x ∷ ys) z) (sym (list_any-append (bytes_eq z) zs (x ∷ ys)) ∙ parts.0) in
-    let behind : (bytes_eq z x ≡ false) × (has_text ys z ≡ false) = or_false_parts (bytes_eq z x) (has_text ys z) among.1 in
-    let here : has_text (zs ++ ys) z ≡ false = list_any-append (bytes_eq z) zs ys ∙ or_false_both (has_text zs z) (has_text ys z) among.0 behind.1 in
-    or_false_both (has_text (zs ++ ys) z) (has_twice (zs ++ ys)) here (has_twice-drop zs ys x parts.1)
+    let parts : (has_text (zs ++ x ∷ ys) z ≡ false) × (has_twice (zs ++ x ∷ ys) ≡ false) = or_parts (has_text (zs ++ x ∷ ys) z) (has_twice (zs ++ x ∷ ys)) once in
+    let among : (has_text zs z ≡ false) × (has_text (x ∷ ys) z ≡ false) = or_parts (has_text zs z) (has_text (x ∷ ys) z) (sym (list_any-append (bytes_eq z) zs (x ∷ ys)) ∙ parts.0) in
+    let behind : (bytes_eq z x ≡ false) × (has_text ys z ≡ false) = or_parts (bytes_eq z x) (has_text ys z) among.1 in
+    let here : has_text (zs ++ ys) z ≡ false = list_any-append (bytes_eq z) zs ys ∙ or_from (has_text zs z) (has_text ys z) among.0 behind.1 in
+    or_from (has_text (zs ++ ys) z) (has_twice (zs ++ ys)) here (has_twice-drop zs ys x parts.1)
 
 -- behind any texts: where none stands twice with these, none does with the others in their place
 abbrev pub AreFewer : List (List ℕ) → List (List ℕ) → Type 0

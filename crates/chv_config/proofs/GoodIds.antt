@@ -5,7 +5,7 @@ use Rattle.std.specs.List.{list_any, list_all, range_with_len}
 use Rattle.std.specs.Option.{option_map_or}
 use Rattle.std.specs.Fmt.{decimal}
 use Rattle.std.proofs.lemmas.Fmt.{decimal_by_steps, length-decimal-le}
-use Rattle.std.proofs.lemmas.Bool.{and_from}
+use Rattle.std.proofs.lemmas.Bool.{and_from, or_parts, or_from}
 use Rattle.std.proofs.lemmas.Bool.Decides.{nat_tests}
 use Rattle.std.proofs.lemmas.List.{length-append}
 use Rattle.std.proofs.lemmas.List.Folds.{list_all-append}
@@ -13,7 +13,6 @@ use Rattle.chv_defs_base.specs.Id.{is_id, is_id_byte}
 use Rattle.chv_defs_api.specs.declared.config.DiskConfig.{DiskConfig}
 use Rattle.chv_defs_api.specs.ConfigRules.{default_id, has_bad_id, id_beside, is_free, lowest_free, with_id, with_ids}
 use Rattle.chv_config.proofs.Firsts.{find-range, IsFirstPassing}
-use Rattle.chv_config.proofs.Kept.{or_false_both, or_false_parts}
 
 -- a digit is a byte of an identifier
 digit : (d : ℕ) → d < 10 → is_id_byte (48 + d) ≡ true
@@ -60,9 +59,9 @@ good_id-with_id ids disk small good = by disk.id good
 pub good_ids-with_ids : (ids : List (List ℕ)) (disks : List DiskConfig) → length ids + length disks < 2 ^ 64 → list_any has_bad_id disks ≡ false → list_any has_bad_id (with_ids ids disks) ≡ false
 good_ids-with_ids ids [] small good = refl
 good_ids-with_ids ids (disk ∷ disks) small good =
-    let parts : (has_bad_id disk ≡ false) × (list_any has_bad_id disks ≡ false) = or_false_parts (has_bad_id disk) (list_any has_bad_id disks) good in
+    let parts : (has_bad_id disk ≡ false) × (list_any has_bad_id disks ≡ false) = or_parts (has_bad_id disk) (list_any has_bad_id disks) good in
     let next : List (List ℕ) = ids ++ id_beside ids disk ∷ [] in
     let fits : length next + length disks < 2 ^ 64 = omega (arith, length-append ids (id_beside ids disk ∷ []), small) in
-    or_false_both (has_bad_id (with_id ids disk)) (list_any has_bad_id (with_ids next disks))
+    or_from (has_bad_id (with_id ids disk)) (list_any has_bad_id (with_ids next disks))
     (good_id-with_id ids disk (omega (arith, small)) parts.0)
     (good_ids-with_ids next disks fits parts.1)

@@ -1,12 +1,11 @@
 -- A configuration that breaks no rule, and its devices.
-use Rattle.std.proofs.Common.{◌≡◌, ℕ, ◌+◌, ◌<◌, ◌≤◌, ◌^◌, Bool, true, false, List, [], ◌∷◌, ◌++◌, Option, None, Some, refl, sym, ◌∙◌, ap, arith, length, append_assoc, suc, cond}
-use Rattle.std.specs.Prelude.{unwrap_or, not, ◌||◌, map, filter, is_some, nat_lt}
+use Rattle.std.proofs.Common.{◌≡◌, ℕ, ◌+◌, ◌<◌, ◌≤◌, ◌^◌, Bool, true, false, List, [], ◌∷◌, ◌++◌, Option, None, Some, refl, sym, ◌∙◌, ap, arith, length, drop, append_assoc, suc, cond}
+use Rattle.std.specs.Prelude.{unwrap_or, ◌||◌, map, filter, is_some}
 use Rattle.std.specs.List.{list_all, filter_map, enumerate_from}
 use Rattle.std.specs.Str.{bytes_eq}
 use Rattle.std.proofs.lemmas.List.{length-append, length-map, map-append}
 use Rattle.std.proofs.lemmas.List.Folds.{list_any-append}
-use Rattle.std.proofs.lemmas.Bool.{false_from_ne_true}
-use Rattle.std.proofs.lemmas.Bool.Decides.{nat_tests}
+use Rattle.std.proofs.lemmas.Bool.{false_from_ne_true, ltb-false, not-true, or_from, or_left, or_parts, or_right}
 use Rattle.chv_defs_base.specs.declared.rule.Rule.{Rule}
 use Rattle.chv_defs_base.specs.declared.rule.Rule.TheVariants.{DiskUnknown, DiskTwice, DeviceIdBad, DeviceIdTwice, QueueShape, TooManyDevices}
 use Rattle.chv_defs_api.specs.declared.config.ZoneConfig.{ZoneConfig}
@@ -44,40 +43,24 @@ given_ids-is (disk ∷ disks) = by disk.id (given_ids-is disks)
     by None e = e
     by (Some id) e = ap (λ rest. id ∷ rest) e
 
-pub or_false_parts : (a b : Bool) → (a || b) ≡ false → (a ≡ false) × (b ≡ false)
-or_false_parts true b h = cc
-or_false_parts false b h = (refl, h)
-
-pub or_false_both : (a b : Bool) → a ≡ false → b ≡ false → (a || b) ≡ false
-or_false_both true b h g = cc
-or_false_both false b h g = g
-
 -- a text that is new is put among texts of which none stands twice
 pub has_twice-put : (xs ys : List (List ℕ)) (x : List ℕ) → has_twice (xs ++ ys) ≡ false → has_text xs x ≡ false → has_text ys x ≡ false → has_twice (xs ++ x ∷ ys) ≡ false
-has_twice-put [] ys x h before after = or_false_both (has_text ys x) (has_twice ys) after h
+has_twice-put [] ys x h before after = or_from (has_text ys x) (has_twice ys) after h
 has_twice-put (z ∷ zs) ys x h before after =
-    let parts : (has_text (zs ++ ys) z ≡ false) × (has_twice (zs ++ ys) ≡ false) = or_false_parts (has_text (zs ++ ys) z) (has_twice (zs ++ ys)) h in
-    let first : (bytes_eq x z ≡ false) × (has_text zs x ≡ false) = or_false_parts (bytes_eq x z) (has_text zs x) before in
-    let among : (has_text zs z ≡ false) × (has_text ys z ≡ false) = or_false_parts (has_text zs z) (has_text ys z) (sym (list_any-append (bytes_eq z) zs ys) ∙ parts.0) in
+    let parts : (has_text (zs ++ ys) z ≡ false) × (has_twice (zs ++ ys) ≡ false) = or_parts (has_text (zs ++ ys) z) (has_twice (zs ++ ys)) h in
+    let first : (bytes_eq x z ≡ false) × (has_text zs x ≡ false) = or_parts (bytes_eq x z) (has_text zs x) before in
+    let among : (has_text zs z ≡ false) × (has_text ys z ≡ false) = or_parts (has_text zs z) (has_text ys z) (sym (list_any-append (bytes_eq z) zs ys) ∙ parts.0) in
     let apart : bytes_eq z x ≡ false = bytes_eq_comm z x ∙ first.0 in
     let new : has_text (zs ++ x ∷ ys) z ≡ false = rw (list_any-append (bytes_eq z) zs (x ∷ ys), among.0, apart, among.1) refl in
-    or_false_both (has_text (zs ++ x ∷ ys) z) (has_twice (zs ++ x ∷ ys)) new (has_twice-put zs ys x parts.1 first.1 after)
+    or_from (has_text (zs ++ x ∷ ys) z) (has_twice (zs ++ x ∷ ys)) new (has_twice-put zs ys x parts.1 first.1 after)
 
 -- each of the first texts is one of the others
 abbrev pub AreAmong : List (List ℕ) → List (List ℕ) → Type 0
 AreAmong texts others = (q : List ℕ) → has_text texts q ≡ true → has_text others q ≡ true
 
-or_intro_left : (a b : Bool) → a ≡ true → (a || b) ≡ true
-or_intro_left true b h = refl
-or_intro_left false b h = cc
-
-or_intro_right : (a b : Bool) → b ≡ true → (a || b) ≡ true
-or_intro_right true b h = refl
-or_intro_right false b h = h
-
 or_map : (a b c d : Bool) → (a ≡ true → c ≡ true) → (b ≡ true → d ≡ true) → (a || b) ≡ true → (c || d) ≡ true
-or_map true b c d f g h = or_intro_left c d (f refl)
-or_map false b c d f g h = or_intro_right c d (g h)
+or_map true b c d f g h = or_left c d (f refl)
+or_map false b c d f g h = or_right c d (g h)
 
 -- the same text put at the end of both
 among-snoc : (xs ys : List (List ℕ)) (x : List ℕ) → AreAmong xs ys → AreAmong (xs ++ x ∷ []) (ys ++ x ∷ [])
@@ -86,11 +69,7 @@ among-snoc xs ys x among q h =
     ∙ or_map (has_text xs q) (has_text (x ∷ []) q) (has_text ys q) (has_text (x ∷ []) q) (among q) (λ e. e) (sym (list_any-append (bytes_eq q) xs (x ∷ [])) ∙ h)
 
 among-more : (xs ys : List (List ℕ)) (x : List ℕ) → AreAmong xs ys → AreAmong xs (ys ++ x ∷ [])
-among-more xs ys x among q h = list_any-append (bytes_eq q) ys (x ∷ []) ∙ or_intro_left (has_text ys q) (has_text (x ∷ []) q) (among q h)
-
-pub not_true : (b : Bool) → not b ≡ true → b ≡ false
-not_true true h = cc
-not_true false h = refl
+among-more xs ys x among q h = list_any-append (bytes_eq q) ys (x ∷ []) ∙ or_left (has_text ys q) (has_text (x ∷ []) q) (among q h)
 
 -- a text that is not among others is not among the first
 not_among : (xs ys : List (List ℕ)) (x : List ℕ) → AreAmong xs ys → has_text ys x ≡ false → has_text xs x ≡ false
@@ -100,7 +79,7 @@ not_among xs ys x among h = false_from_ne_true (has_text xs x) (λ e. let there 
 pub named-distinct : (before ids : List (List ℕ)) (options : List (Option (List ℕ))) → AreAmong before ids → AreAmong (given_of options) ids → has_twice (before ++ given_of options) ≡ false → length ids + length options < 2 ^ 64 → has_twice (before ++ named ids options) ≡ false
 named-distinct before ids [] known given h small = h
 named-distinct before ids (Some id ∷ options) known given h small =
-    let rest : AreAmong (given_of options) ids = λ q e. given q (or_intro_right (bytes_eq q id) (has_text (given_of options) q) e) in
+    let rest : AreAmong (given_of options) ids = λ q e. given q (or_right (bytes_eq q id) (has_text (given_of options) q) e) in
     let moved : has_twice ((before ++ id ∷ []) ++ given_of options) ≡ false = ap has_twice (append_assoc before (id ∷ []) (given_of options)) ∙ h in
     let fits : length (ids ++ id ∷ []) + length options < 2 ^ 64 = omega (arith, length-append ids (id ∷ []), small) in
     let all : has_twice ((before ++ id ∷ []) ++ named (ids ++ id ∷ []) options) ≡ false =
@@ -108,7 +87,7 @@ named-distinct before ids (Some id ∷ options) known given h small =
     sym (ap has_twice (append_assoc before (id ∷ []) (named (ids ++ id ∷ []) options))) ∙ all
 named-distinct before ids (None ∷ options) known given h small =
     let id = default_id (lowest_free ids) in
-    let free : has_text ids id ≡ false = not_true (has_text ids id) (lowest_free-is ids (omega arith)).0 in
+    let free : has_text ids id ≡ false = not-true (has_text ids id) (lowest_free-is ids (omega arith)).0 in
     let put : has_twice (before ++ id ∷ given_of options) ≡ false =
     has_twice-put before (given_of options) id h (not_among before ids id known free) (not_among (given_of options) ids id given free) in
     let moved : has_twice ((before ++ id ∷ []) ++ given_of options) ≡ false = ap has_twice (append_assoc before (id ∷ []) (given_of options)) ∙ put in
@@ -140,18 +119,13 @@ pub record KeepsDeviceRules (names : List (List ℕ)) (config : VmConfig) : Type
 pub keeps_device_rules : (names : List (List ℕ)) (config : VmConfig) → verdict names config ≡ None → KeepsDeviceRules names config
 keeps_device_rules names config h =
     let all : first_broken (device_rules names config) ≡ None = first_broken-rest (cpu_rules config ++ memory_rules config) (device_rules names config) h in
-    let rest6 : List (Bool × Rule) = [] in
-    let rest5 : List (Bool × Rule) = (too_many_devices config, TooManyDevices) ∷ rest6 in
-    let rest4 : List (Bool × Rule) = (queue_shape config, QueueShape) ∷ rest5 in
-    let rest3 : List (Bool × Rule) = (device_id_twice config, DeviceIdTwice) ∷ rest4 in
-    let rest2 : List (Bool × Rule) = (device_id_bad config, DeviceIdBad) ∷ rest3 in
-    let rest1 : List (Bool × Rule) = (disk_twice config, DiskTwice) ∷ rest2 in
-    let a = broken_none (disk_unknown names config) DiskUnknown rest1 all in
-    let b = broken_none (disk_twice config) DiskTwice rest2 a.1 in
-    let d = broken_none (device_id_bad config) DeviceIdBad rest3 b.1 in
-    let e = broken_none (device_id_twice config) DeviceIdTwice rest4 d.1 in
-    let f = broken_none (queue_shape config) QueueShape rest5 e.1 in
-    let g = broken_none (too_many_devices config) TooManyDevices rest6 f.1 in
+    let rules = device_rules names config in
+    let a = broken_none (disk_unknown names config) DiskUnknown (drop 1 rules) all in
+    let b = broken_none (disk_twice config) DiskTwice (drop 2 rules) a.1 in
+    let d = broken_none (device_id_bad config) DeviceIdBad (drop 3 rules) b.1 in
+    let e = broken_none (device_id_twice config) DeviceIdTwice (drop 4 rules) d.1 in
+    let f = broken_none (queue_shape config) QueueShape (drop 5 rules) e.1 in
+    let g = broken_none (too_many_devices config) TooManyDevices (drop 6 rules) f.1 in
     record { known = a.0; names_once = b.0; good_ids = d.0; ids_once = e.0; good_queues = f.0; few = g.0 }
 
 -- ---- the devices of a configuration that is kept
@@ -170,15 +144,12 @@ length-given ids disks =
     ∙ length-named ids (map (λ disk. disk.id) disks)
     ∙ length-map disks (λ disk. disk.id)
 
-pub ltb_false : (a b : ℕ) → nat_lt a b ≡ false → b ≤ a
-ltb_false a b h = grind (arith, nat_tests)
-
 -- at most 31 devices stand
 pub devices_are_few : (config : VmConfig) → too_many_devices config ≡ false → length (ids_of (zones_in_effect config.memory) (with_ids (ids_of (zones_in_effect config.memory) config.disks) config.disks)) ≤ 31
 devices_are_few config h =
     let zones = zones_in_effect config.memory in
     let ids = ids_of zones config.disks in
-    let few : length (filter grows zones) + length config.disks ≤ 31 = ltb_false 31 (length (filter grows zones) + length config.disks) h in
+    let few : length (filter grows zones) + length config.disks ≤ 31 = ltb-false 31 (length (filter grows zones) + length config.disks) h in
     omega (arith, few, length-append (memory_device_ids zones) (given_ids (with_ids ids config.disks)), length-map (filter grows zones) memory_device_id, length-given ids config.disks)
 
 length-given_of : (options : List (Option (List ℕ))) → length (given_of options) ≤ length options
@@ -194,10 +165,10 @@ devices_are_distinct config once few =
     let ids = ids_of zones config.disks in
     let options = map (λ disk. disk.id) config.disks in
     let same : given_ids config.disks ≡ given_of options = given_ids-is config.disks in
-    let known : AreAmong before ids = λ q h. list_any-append (bytes_eq q) before (given_ids config.disks) ∙ or_intro_left (has_text before q) (has_text (given_ids config.disks) q) h in
-    let given : AreAmong (given_of options) ids = λ q h. list_any-append (bytes_eq q) before (given_ids config.disks) ∙ or_intro_right (has_text before q) (has_text (given_ids config.disks) q) (ap (λ texts. has_text texts q) same ∙ h) in
+    let known : AreAmong before ids = λ q h. list_any-append (bytes_eq q) before (given_ids config.disks) ∙ or_left (has_text before q) (has_text (given_ids config.disks) q) h in
+    let given : AreAmong (given_of options) ids = λ q h. list_any-append (bytes_eq q) before (given_ids config.disks) ∙ or_right (has_text before q) (has_text (given_ids config.disks) q) (ap (λ texts. has_text texts q) same ∙ h) in
     let start : has_twice (before ++ given_of options) ≡ false = ap (λ texts. has_twice (before ++ texts)) (sym same) ∙ once in
-    let small : length (filter grows zones) + length config.disks ≤ 31 = ltb_false 31 (length (filter grows zones) + length config.disks) few in
+    let small : length (filter grows zones) + length config.disks ≤ 31 = ltb-false 31 (length (filter grows zones) + length config.disks) few in
     let fits : length ids + length options < 2 ^ 64 =
     omega (arith, small, length-append before (given_ids config.disks), length-map (filter grows zones) memory_device_id, length-map config.disks (λ disk. disk.id), ap length same, length-given_of options) in
     ap (λ texts. has_twice (before ++ texts)) (given_ids-with_ids ids config.disks) ∙ named-distinct before ids options known given start fits

@@ -1,11 +1,11 @@
 -- What holds of a checked configuration, and says that it is one: so it is still one with a further disk that the rules let
 -- through, and without some of its disks.
-use Rattle.std.proofs.Common.{◌≡◌, ℕ, ◌+◌, ◌<◌, ◌≤◌, ◌^◌, Bool, true, false, List, [], ◌∷◌, ◌++◌, Option, None, Some, Ok, refl, sym, ◌∙◌, ap, subst, arith, length, append_assoc, suc}
+use Rattle.std.proofs.Common.{◌≡◌, ℕ, ◌+◌, ◌<◌, ◌≤◌, ◌^◌, Bool, true, false, List, [], ◌∷◌, ◌++◌, Option, None, Some, Ok, refl, sym, ◌∙◌, ap, subst, arith, length, drop, append_assoc, suc}
 use Rattle.std.specs.Prelude.{unwrap_or, not, ◌||◌, map, filter, is_some, nat_lt, nat_le}
 use Rattle.std.specs.List.{list_any, list_all, cons_option}
 use Rattle.std.specs.Option.{option_map_or}
 use Rattle.std.specs.Str.{bytes_eq}
-use Rattle.std.proofs.lemmas.Bool.{and_from, and_parts, or_right}
+use Rattle.std.proofs.lemmas.Bool.{and_from, and_parts, or_right, or_from, not-true, ltb-false}
 use Rattle.std.proofs.lemmas.Bool.Decides.{nat_tests}
 use Rattle.std.proofs.lemmas.Slice.Eq.{bytes_eq-Decides}
 use Rattle.std.proofs.lemmas.List.{length-append, length-map, map-append}
@@ -22,7 +22,7 @@ use Rattle.chv_config.proofs.DefaultIds.{lowest_free-is}
 use Rattle.chv_config.proofs.Fewer.{ids-filter, length-filter-le, list_all-filter, list_any-filter, names-filter}
 use Rattle.chv_config.proofs.Firsts.{first_broken-none}
 use Rattle.chv_config.proofs.GoodIds.{good_id-with_id, good_ids-with_ids}
-use Rattle.chv_config.proofs.Kept.{KeepsDeviceRules, broken_none, devices_are_distinct, first_broken-rest, keeps_device_rules, ltb_false, not_true, or_false_both, with_ids-set}
+use Rattle.chv_config.proofs.Kept.{KeepsDeviceRules, broken_none, devices_are_distinct, first_broken-rest, keeps_device_rules, with_ids-set}
 use Rattle.chv_config.proofs.Twice.{has_twice-none, known_disks}
 
 -- What holds of a checked configuration: the zones in effect stand beside it, each disk has its id, and it breaks no rule,
@@ -68,7 +68,7 @@ length-given_ids (disk ∷ disks) = by disk.id (length-given_ids disks)
 -- devices have few ids
 few_ids : (zones : List ZoneConfig) (disks : List DiskConfig) → nat_lt 31 (length (filter grows zones) + length disks) ≡ false → length (ids_of zones disks) + length disks < 2 ^ 64
 few_ids zones disks few =
-    let small : length (filter grows zones) + length disks ≤ 31 = ltb_false 31 (length (filter grows zones) + length disks) few in
+    let small : length (filter grows zones) + length disks ≤ 31 = ltb-false 31 (length (filter grows zones) + length disks) few in
     omega (arith, small, length-append (memory_device_ids zones) (given_ids disks), length-map (filter grows zones) memory_device_id, length-given_ids disks)
 
 pub KeepsRules-checked_of : (names : List (List ℕ)) (config : VmConfig) → verdict names config ≡ None → KeepsRules (checked_of config)
@@ -152,19 +152,14 @@ own_verdict : (now : Checked) → KeepsRules now → verdict (map disk_name now.
 own_verdict now kept =
     let names = map disk_name now.config.disks in
     let config : VmConfig = now.config in
-    let rest6 : List (Bool × Rule) = [] in
-    let rest5 : List (Bool × Rule) = (too_many_devices config, TooManyDevices) ∷ rest6 in
-    let rest4 : List (Bool × Rule) = (queue_shape config, QueueShape) ∷ rest5 in
-    let rest3 : List (Bool × Rule) = (device_id_twice config, DeviceIdTwice) ∷ rest4 in
-    let rest2 : List (Bool × Rule) = (device_id_bad config, DeviceIdBad) ∷ rest3 in
-    let rest1 : List (Bool × Rule) = (disk_twice config, DiskTwice) ∷ rest2 in
+    let rules = device_rules names config in
     let devices : first_broken (device_rules names config) ≡ None =
-    pass (disk_unknown names config) DiskUnknown rest1 (own_known config.disks)
-    (pass (disk_twice config) DiskTwice rest2 kept.names_once
-    (pass (device_id_bad config) DeviceIdBad rest3 kept.good_ids
-    (pass (device_id_twice config) DeviceIdTwice rest4 kept.ids_once
-    (pass (queue_shape config) QueueShape rest5 kept.good_queues
-    (pass (too_many_devices config) TooManyDevices rest6 kept.few refl))))) in
+    pass (disk_unknown names config) DiskUnknown (drop 1 rules) (own_known config.disks)
+    (pass (disk_twice config) DiskTwice (drop 2 rules) kept.names_once
+    (pass (device_id_bad config) DeviceIdBad (drop 3 rules) kept.good_ids
+    (pass (device_id_twice config) DeviceIdTwice (drop 4 rules) kept.ids_once
+    (pass (queue_shape config) QueueShape (drop 5 rules) kept.good_queues
+    (pass (too_many_devices config) TooManyDevices (drop 6 rules) kept.few refl))))) in
     first_broken-none (cpu_rules config) (memory_rules config ++ device_rules names config) kept.cpus
     ∙ first_broken-none (memory_rules config) (device_rules names config) kept.memory
     ∙ devices
@@ -199,21 +194,17 @@ record IsLetThrough (now : Checked) (disk : DiskConfig) : Type 0 where
 
 let_through : (names : List (List ℕ)) (now : Checked) (disk : DiskConfig) → first_broken (further_disk_rules names now disk) ≡ None → IsLetThrough now disk
 let_through names now disk none =
-    let rest5 : List (Bool × Rule) = [] in
-    let rest4 : List (Bool × Rule) = (has_odd_queue disk, QueueShape) ∷ rest5 in
-    let rest3 : List (Bool × Rule) = (option_map_or (has_text (device_ids now)) disk.id false, DeviceIdTwice) ∷ rest4 in
-    let rest2 : List (Bool × Rule) = (has_bad_id disk, DeviceIdBad) ∷ rest3 in
-    let rest1 : List (Bool × Rule) = (has_text (map disk_name now.config.disks) (disk_name disk), DiskTwice) ∷ rest2 in
-    let a = broken_none (is_unknown names disk) DiskUnknown rest1 none in
-    let b = broken_none (has_text (map disk_name now.config.disks) (disk_name disk)) DiskTwice rest2 a.1 in
-    let d = broken_none (has_bad_id disk) DeviceIdBad rest3 b.1 in
-    let e = broken_none (option_map_or (has_text (device_ids now)) disk.id false) DeviceIdTwice rest4 d.1 in
-    let f = broken_none (has_odd_queue disk) QueueShape rest5 e.1 in
+    let rules = further_disk_rules names now disk in
+    let a = broken_none (is_unknown names disk) DiskUnknown (drop 1 rules) none in
+    let b = broken_none (has_text (map disk_name now.config.disks) (disk_name disk)) DiskTwice (drop 2 rules) a.1 in
+    let d = broken_none (has_bad_id disk) DeviceIdBad (drop 3 rules) b.1 in
+    let e = broken_none (option_map_or (has_text (device_ids now)) disk.id false) DeviceIdTwice (drop 4 rules) d.1 in
+    let f = broken_none (has_odd_queue disk) QueueShape (drop 5 rules) e.1 in
     record { other_name = b.0; good_id = d.0; other_id = e.0; good_queue = f.0 }
 
 -- the id that a further disk gets is that of no other device
 new_id : (ids : List (List ℕ)) (given : Option (List ℕ)) → length ids < 2 ^ 64 → option_map_or (has_text ids) given false ≡ false → has_text ids (unwrap_or given (default_id (lowest_free ids))) ≡ false
-new_id ids None small other = not_true (has_text ids (default_id (lowest_free ids))) (lowest_free-is ids small).0
+new_id ids None small other = not-true (has_text ids (default_id (lowest_free ids))) (lowest_free-is ids small).0
 new_id ids (Some id) small other = other
 
 -- one more device, where not all slots are used
@@ -244,9 +235,9 @@ with_disk-keeps names now disk kept none free =
       cpus = kept.cpus;
       memory = kept.memory;
       names_once = ap has_twice (map-append disk_name disks (new ∷ [])) ∙ has_twice-none (map disk_name disks) (disk_name disk) kept.names_once through.other_name;
-      good_ids = list_any-append has_bad_id disks (new ∷ []) ∙ or_false_both (list_any has_bad_id disks) (list_any has_bad_id (new ∷ [])) kept.good_ids (or_false_both (has_bad_id new) false (good_id-with_id ids disk small through.good_id) refl);
+      good_ids = list_any-append has_bad_id disks (new ∷ []) ∙ or_from (list_any has_bad_id disks) (list_any has_bad_id (new ∷ [])) kept.good_ids (or_from (has_bad_id new) false (good_id-with_id ids disk small through.good_id) refl);
       ids_once = ap has_twice (ids_of-more zones disks new id refl) ∙ has_twice-none (ids_of zones disks) id kept.ids_once other;
-      good_queues = list_any-append has_odd_queue disks (new ∷ []) ∙ or_false_both (list_any has_odd_queue disks) (list_any has_odd_queue (new ∷ [])) kept.good_queues (or_false_both (has_odd_queue disk) false through.good_queue refl);
+      good_queues = list_any-append has_odd_queue disks (new ∷ []) ∙ or_from (list_any has_odd_queue disks) (list_any has_odd_queue (new ∷ [])) kept.good_queues (or_from (has_odd_queue disk) false through.good_queue refl);
       few = one_more (length (filter grows zones)) (length disks) (length (disks ++ new ∷ [])) (length-append disks (new ∷ [])) places;
     }
 

@@ -1,11 +1,12 @@
 -- Texts among texts, and texts that stand twice.
-use Rattle.std.proofs.Common.{◌≡◌, ℕ, ◌+◌, Bool, true, false, List, [], ◌∷◌, ◌++◌, refl, sym, ◌∙◌, ap, append_assoc}
+use Rattle.std.proofs.Common.{◌≡◌, ℕ, Bool, true, false, List, [], ◌∷◌, ◌++◌, refl, sym, ◌∙◌, ap, append_assoc}
 use Rattle.std.specs.Prelude.{◌||◌, ◌&&◌, not, map, cond}
 use Rattle.std.specs.List.{list_any, list_all}
 use Rattle.std.specs.Str.{bytes_eq}
 use Rattle.std.specs.Cmp.{partial_equiv_from_equiv}
 use Rattle.std.specs.Cmp.Lexicographic.{nat_list_eq_equiv}
 use Rattle.std.proofs.lemmas.List.Folds.{list_any-append}
+use Rattle.std.proofs.lemmas.Bool.{or_right}
 use Rattle.chv_defs_api.specs.ConfigRules.{has_text, has_twice, is_unknown, disk_name}
 use Rattle.chv_defs_api.specs.declared.config.DiskConfig.{DiskConfig}
 
@@ -29,19 +30,6 @@ has_twice-snoc [] y = refl
 has_twice-snoc (x ∷ xs) y =
     rw (list_any-append (bytes_eq x) xs (y ∷ []), has_twice-snoc xs y, bytes_eq_comm y x)
     (shuffle (has_text xs x) (bytes_eq x y) (has_twice xs) (has_text xs y))
-
-or_true : (a b : Bool) → a ≡ true → (a || b) ≡ true
-or_true true b h = refl
-or_true false b h = cc
-
-or_more : (a b c : Bool) → (a || c) ≡ true → ((a || b) || c) ≡ true
-or_more true b c h = refl
-or_more false true c h = refl
-or_more false false c h = h
-
-or_right : (a b : Bool) → b ≡ true → (a || b) ≡ true
-or_right true b h = refl
-or_right false b h = h
 
 or_cases : (a b c d : Bool) → (a || b) ≡ true → (b ≡ true → d ≡ true) → ((a || c) || d) ≡ true
 or_cases true b c d h f = refl

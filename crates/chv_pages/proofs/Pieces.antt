@@ -1,7 +1,7 @@
 -- Bytes that lie in one page.
 use Rattle.std.proofs.Common.{◌≡◌, ℕ, ◌+◌, ◌-◌, ◌*◌, ◌/◌, ◌%◌, ◌<◌, ◌≤◌, Bool, true, false, List, [], ◌∷◌, refl, sym, ◌∙◌, ap, arith, length, get_or, set, drop, suc, zero, inl, inr}
 use Rattle.std.specs.Prelude.{cond, ◌==◌, ◌&&◌, slice_index, slice_range}
-use Rattle.std.proofs.lemmas.Bool.{false_from_ne_true, cases_lt}
+use Rattle.std.proofs.lemmas.Bool.{false_from_ne_true, cases_lt, and_parts, eq-eqb}
 use Rattle.std.proofs.lemmas.Bool.Decides.{nat_tests}
 use Rattle.std.proofs.lemmas.List.{get_or-drop, get_or-take, length-take, length-drop}
 use Rattle.chv_defs_memory.specs.PageContents.{is_inside}
@@ -28,15 +28,8 @@ outside_below offset len at h = grind (arith, nat_tests)
 pub outside_above : (offset len at : ℕ) → offset + len ≤ at → is_inside offset len at ≡ false
 outside_above offset len at h = grind (arith, nat_tests)
 
-and_parts : (a b : Bool) → (a && b) ≡ true → (a ≡ true) × (b ≡ true)
-and_parts true b h = (refl, h)
-and_parts false b h = cc
-
 eqb_true : (a b : ℕ) → (a == b) ≡ true → a ≡ b
 eqb_true a b h = grind (arith, nat_tests)
-
-eqb_same : (a b : ℕ) → a ≡ b → (a == b) ≡ true
-eqb_same a b h = grind (arith, nat_tests)
 
 and_true_left : (a b : Bool) → a ≡ true → (a && b) ≡ b
 and_true_left true b h = refl
@@ -73,7 +66,7 @@ piece-bytes n block offset b at old new from e small page copied there =
     place low = omega (arith, e, parts.0, parts.1, small)
 
     result : (t : Bool) → is_inside offset (length from) at ≡ t → cond (b == block && is_inside offset (length from) at) (slice_index from (at - offset)) (slice_index old (at % 4096)) ≡ cond t (slice_index from (at - offset)) (slice_index old (at % 4096))
-    result t h = ap (λ x. cond x (slice_index from (at - offset)) (slice_index old (at % 4096))) (and_true_left (b == block) (is_inside offset (length from) at) (eqb_same b block same) ∙ h)
+    result t h = ap (λ x. cond x (slice_index from (at - offset)) (slice_index old (at % 4096))) (and_true_left (b == block) (is_inside offset (length from) at) (eq-eqb b block same) ∙ h)
 
 at-len : (low high : ℕ) (held : List Held) (place number : ℕ) (d : Held) → IsAt held place number → AreHeld low high held → length (get_or held place d).page ≡ 4096
 at-len low high [] place number d h a = absurd h

@@ -1,26 +1,12 @@
 -- The page with a number among pages that are held.
-use Rattle.std.proofs.Common.{◌≡◌, ℕ, ◌+◌, ◌%◌, ◌<◌, Bool, true, false, List, [], ◌∷◌, refl, sym, ◌∙◌, ap, subst, arith, length, get_or, set, suc, zero}
+use Rattle.std.proofs.Common.{◌≡◌, ℕ, ◌+◌, ◌%◌, Bool, true, false, List, [], ◌∷◌, refl, sym, ◌∙◌, ap, subst, arith, length, get_or, set, suc, zero}
 use Rattle.std.specs.Prelude.{cond, ◌==◌, ◌||◌, map, slice_index}
-use Rattle.std.proofs.lemmas.Bool.{eqb-false, eq-eqb}
+use Rattle.std.proofs.lemmas.Bool.{eqb-false}
 use Rattle.std.proofs.lemmas.Bool.Decides.{nat_tests}
 use Rattle.chv_pages.specs.declared.held.Held.{Held}
 use Rattle.chv_pages.specs.HeldPages.{has_number, held_at, is_address, IsAt, AreHeld}
 
 -- ---- what stands at its place
-
-pub at-length : (held : List Held) (place number : ℕ) → IsAt held place number → place < length held
-at-length [] place number h = absurd h
-at-length (x ∷ xs) zero number h = omega arith
-at-length (x ∷ xs) (suc place) number h = omega (arith, at-length xs place number h.1)
-
-pub at-has : (held : List Held) (place number : ℕ) → IsAt held place number → has_number held number ≡ true
-at-has [] place number h = absurd h
-at-has (x ∷ xs) zero number h = ap (λ b. b || has_number xs number) (eq-eqb x.number number h)
-at-has (x ∷ xs) (suc place) number h = right (x.number == number) (at-has xs place number h.1)
-  where
-    right : (a : Bool) → has_number xs number ≡ true → (a || has_number xs number) ≡ true
-    right true e = refl
-    right false e = e
 
 -- the page that holds an address is one
 pub one_address : (m n b o : ℕ) → is_address m b o ≡ true → is_address n b o ≡ true → m ≡ n

@@ -1,64 +1,51 @@
 -- Pages that are put at their number.
-use Rattle.std.proofs.Common.{◌≡◌, ℕ, ◌+◌, ◌/◌, ◌%◌, ◌<◌, ◌≤◌, Bool, true, false, List, [], ◌∷◌, None, Some, refl, sym, ◌∙◌, ap, subst, arith, length, set, suc}
-use Rattle.std.specs.Prelude.{cond, ◌==◌, ◌||◌, nat_lt, insert, slice_index}
-use Rattle.std.specs.List.{prefix_len, cons_option}
-use Rattle.std.proofs.lemmas.List.Sums.{prefix_len-le-length}
+use Rattle.std.proofs.Common.{◌≡◌, ℕ, ◌+◌, ◌/◌, ◌%◌, ◌<◌, ◌≤◌, Bool, true, false, List, [], ◌∷◌, None, Some, Ok, Err, refl, sym, ◌∙◌, ap, subst, arith, length, set, suc}
+use Rattle.std.specs.Prelude.{cond, ◌==◌, ◌||◌, nat_lt, insert, slice_index, MatchResult}
+use Rattle.std.specs.List.{cons_option}
+use Rattle.chv_lists.proofs.Located.{locate-cases}
+use Rattle.chv_pages.proofs.Search.{located}
 use Rattle.chv_pages.proofs.Places.{one_address}
 use Rattle.std.proofs.lemmas.Bool.Decides.{nat_tests}
+use Rattle.std.proofs.lemmas.Bool.{or_parts}
 use Rattle.chv_defs_memory.specs.PageContents.{is_blank}
 use Rattle.chv_pages.specs.declared.held.Held.{Held}
-use Rattle.chv_pages.specs.HeldPages.{has_number, held_at, is_address, is_there, put, shown, visible, AreHeld, MakesRoom}
+use Rattle.chv_pages.specs.HeldPages.{has_number, held_at, is_address, put, shown, visible, AreHeld, MakesRoom}
 
--- put where a page with the number stands
-pub put-set : (held : List Held) (number : ℕ) (page : List ℕ) → is_there held (prefix_len (λ h. nat_lt h.number number) held) number ≡ true → set held (prefix_len (λ h. nat_lt h.number number) held) (record { number = number; page = page }) ≡ put held number page
-put-set [] number page there = cc
-put-set (h ∷ hs) number page there = by (nat_lt h.number number) there (put-set hs number page)
+-- a page of the number
+abbrev pub page_of : ℕ → List ℕ → Held
+page_of number page = record { number = number; page = page }
+
+-- put at the place that is located: in place of the page that stands there, or before it
+put-located : (number : ℕ) (page : List ℕ) (held : List Held) →
+    MatchResult (located held number) (λ place. set held place (page_of number page) ≡ put held number page) (λ place. insert held place (page_of number page) ≡ put held number page)
+put-located number page held = locate-cases (λ (h : Held). h.number) (λ (h : Held). h.number + 1) number (λ hs k. set hs k (page_of number page) ≡ put hs number page) (λ hs k. insert hs k (page_of number page) ≡ put hs number page) refl here before found missed held
   where
-    len : ℕ
-    len = prefix_len (λ h. nat_lt h.number number) hs
+    here : (x : Held) (hs : List Held) → x.number ≤ number → number < x.number + 1 → set (x ∷ hs) 0 (page_of number page) ≡ put (x ∷ hs) number page
+    here x hs from below =
+        let no : nat_lt x.number number ≡ false = grind (arith, nat_tests) in
+        let same : (x.number == number) ≡ true = grind (arith, nat_tests) in
+        rw (no, same) refl
 
-    by : (b : Bool) → is_there (h ∷ hs) (cond b (1 + prefix_len (λ h. nat_lt h.number number) hs) 0) number ≡ true →
-        (is_there hs (prefix_len (λ h. nat_lt h.number number) hs) number ≡ true → set hs (prefix_len (λ h. nat_lt h.number number) hs) (record { number = number; page = page }) ≡ put hs number page) →
-        set (h ∷ hs) (cond b (1 + prefix_len (λ h. nat_lt h.number number) hs) 0) (record { number = number; page = page })
-        ≡ cond b (h ∷ put hs number page) (cond (h.number == number) (record { number = number; page = page } ∷ hs) (record { number = number; page = page } ∷ h ∷ hs))
-    by true g f =
-        let next : 1 + prefix_len (λ h. nat_lt h.number number) hs ≡ suc (prefix_len (λ h. nat_lt h.number number) hs) = omega arith in
-        ap (λ n. set (h ∷ hs) n (record { number = number; page = page })) next
-        ∙ ap (λ rest. h ∷ rest) (f (sym (ap (λ n. is_there (h ∷ hs) n number) next) ∙ g))
-    by false g f = sym (ap (λ b. cond b (record { number = number; page = page } ∷ hs) (record { number = number; page = page } ∷ h ∷ hs)) g)
+    before : (x : Held) (hs : List Held) → number < x.number → number < x.number + 1 → insert (x ∷ hs) 0 (page_of number page) ≡ put (x ∷ hs) number page
+    before x hs above below =
+        let no : nat_lt x.number number ≡ false = grind (arith, nat_tests) in
+        let other : (x.number == number) ≡ false = grind (arith, nat_tests) in
+        rw (no, other) refl
 
--- put where no page with the number stands
-pub put-insert : (held : List Held) (number : ℕ) (page : List ℕ) → is_there held (prefix_len (λ h. nat_lt h.number number) held) number ≡ false → insert held (prefix_len (λ h. nat_lt h.number number) held) (record { number = number; page = page }) ≡ put held number page
-put-insert [] number page there = refl
-put-insert (h ∷ hs) number page there = by (nat_lt h.number number) there (put-insert hs number page)
-  where
-    by : (b : Bool) → is_there (h ∷ hs) (cond b (1 + prefix_len (λ h. nat_lt h.number number) hs) 0) number ≡ false →
-        (is_there hs (prefix_len (λ h. nat_lt h.number number) hs) number ≡ false → insert hs (prefix_len (λ h. nat_lt h.number number) hs) (record { number = number; page = page }) ≡ put hs number page) →
-        insert (h ∷ hs) (cond b (1 + prefix_len (λ h. nat_lt h.number number) hs) 0) (record { number = number; page = page })
-        ≡ cond b (h ∷ put hs number page) (cond (h.number == number) (record { number = number; page = page } ∷ hs) (record { number = number; page = page } ∷ h ∷ hs))
-    by true g f =
-        let next : 1 + prefix_len (λ h. nat_lt h.number number) hs ≡ suc (prefix_len (λ h. nat_lt h.number number) hs) = omega arith in
-        ap (λ n. insert (h ∷ hs) n (record { number = number; page = page })) next
-        ∙ ap (λ rest. h ∷ rest) (f (sym (ap (λ n. is_there (h ∷ hs) n number) next) ∙ g))
-    by false g f = sym (ap (λ b. cond b (record { number = number; page = page } ∷ hs) (record { number = number; page = page } ∷ h ∷ hs)) g)
+    found : (x : Held) (hs : List Held) (k : ℕ) → x.number + 1 ≤ number → set hs k (page_of number page) ≡ put hs number page → set (x ∷ hs) (suc k) (page_of number page) ≡ put (x ∷ hs) number page
+    found x hs k past f = let less : nat_lt x.number number ≡ true = grind (arith, nat_tests) in rw less (ap (λ (rest : List Held). x ∷ rest) f)
 
--- the same, of a place and of lists that were read before
-pub put-set-at : (items before read : List Held) (place number : ℕ) (page : List ℕ) → before ≡ items → read ≡ items → place ≡ prefix_len (λ h. nat_lt h.number number) before → true ≡ is_there read place number → set items place (record { number = number; page = page }) ≡ put items number page
-put-set-at items before read place number page e f at there =
-    let where_ : place ≡ prefix_len (λ h. nat_lt h.number number) items = at ∙ ap (prefix_len (λ h. nat_lt h.number number)) e in
-    let stands : is_there items (prefix_len (λ h. nat_lt h.number number) items) number ≡ true =
-    sym (there ∙ ap (λ xs. is_there xs place number) f ∙ ap (λ k. is_there items k number) where_) in
-    ap (λ k. set items k (record { number = number; page = page })) where_ ∙ put-set items number page stands
+    missed : (x : Held) (hs : List Held) (k : ℕ) → x.number + 1 ≤ number → insert hs k (page_of number page) ≡ put hs number page → insert (x ∷ hs) (suc k) (page_of number page) ≡ put (x ∷ hs) number page
+    missed x hs k past f = let less : nat_lt x.number number ≡ true = grind (arith, nat_tests) in rw less (ap (λ (rest : List Held). x ∷ rest) f)
 
-pub put-insert-at : (items before read : List Held) (place number : ℕ) (page : List ℕ) → before ≡ items → read ≡ items → place ≡ prefix_len (λ h. nat_lt h.number number) before → false ≡ is_there read place number → insert items place (record { number = number; page = page }) ≡ put items number page
-put-insert-at items before read place number page e f at there =
-    let where_ : place ≡ prefix_len (λ h. nat_lt h.number number) items = at ∙ ap (prefix_len (λ h. nat_lt h.number number)) e in
-    let stands : is_there items (prefix_len (λ h. nat_lt h.number number) items) number ≡ false =
-    sym (there ∙ ap (λ xs. is_there xs place number) f ∙ ap (λ k. is_there items k number) where_) in
-    ap (λ k. insert items k (record { number = number; page = page })) where_ ∙ put-insert items number page stands
+-- the same, of pages that were read before
+pub put-found : (items before : List Held) (place number : ℕ) (page : List ℕ) → before ≡ items → located before number ≡ Ok place → set items place (page_of number page) ≡ put items number page
+put-found items before place number page e at =
+    subst (λ r. MatchResult r (λ k. set items k (page_of number page) ≡ put items number page) (λ k. insert items k (page_of number page) ≡ put items number page)) (sym (ap (λ hs. located hs number) e) ∙ at) (put-located number page items)
 
-pub place-le : (before : List Held) (place number : ℕ) → place ≡ prefix_len (λ h. nat_lt h.number number) before → place ≤ length before
-place-le before place number at = omega (arith, at, prefix_len-le-length (λ (h : Held). nat_lt h.number number) before)
+pub put-missed : (items before : List Held) (place number : ℕ) (page : List ℕ) → before ≡ items → located before number ≡ Err place → insert items place (page_of number page) ≡ put items number page
+put-missed items before place number page e at =
+    subst (λ r. MatchResult r (λ k. set items k (page_of number page) ≡ put items number page) (λ k. insert items k (page_of number page) ≡ put items number page)) (sym (ap (λ hs. located hs number) e) ∙ at) (put-located number page items)
 
 or_cases : (a b c : Bool) → (b ≡ c) → (a || b) ≡ (a || c)
 or_cases a b c e = ap (λ x. a || x) e
@@ -105,15 +92,11 @@ put-keeps low high (h ∷ hs) number page from to len a =
         let after : number + 1 ≤ h.number = grind (arith, nat_tests) in
         (from, to, len, (after, a.1, a.2, a.3))
 
-not_or : (a b : Bool) → (a || b) ≡ false → (a ≡ false) × (b ≡ false)
-not_or true b h = cc
-not_or false b h = (refl, h)
-
 -- a page of zeros is not shown
 pub put-visible : (held : List Held) (number : ℕ) (page : List ℕ) → is_blank page ≡ true → has_number held number ≡ false → visible (put held number page) ≡ visible held
 put-visible [] number page blank none = ap (λ b. cons_option (cond b None (Some (record { block = number / 512; page = number % 512; bytes = page }))) []) blank
 put-visible (h ∷ hs) number page blank none =
-    by (nat_lt h.number number) (h.number == number) refl (not_or (h.number == number) (has_number hs number) none).0 (put-visible hs number page blank (not_or (h.number == number) (has_number hs number) none).1)
+    by (nat_lt h.number number) (h.number == number) refl (or_parts (h.number == number) (has_number hs number) none).0 (put-visible hs number page blank (or_parts (h.number == number) (has_number hs number) none).1)
   where
     by : (b e : Bool) → (h.number == number) ≡ e → (h.number == number) ≡ false → visible (put hs number page) ≡ visible hs →
         visible (cond b (h ∷ put hs number page) (cond e (record { number = number; page = page } ∷ hs) (record { number = number; page = page } ∷ h ∷ hs))) ≡ visible (h ∷ hs)

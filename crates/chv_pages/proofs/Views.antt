@@ -6,6 +6,7 @@ use Rattle.std.proofs.lemmas.Bool.{eqb-false}
 use Rattle.std.proofs.lemmas.Bool.Decides.{nat_tests}
 use Rattle.std.proofs.lemmas.List.{ext_get_or}
 use Rattle.std.proofs.lemmas.List.FromFn.{get_or-map-range_with_len, length-map-range_with_len}
+use Rattle.chv_lists.proofs.Bools.{bool_eq}
 use Rattle.chv_defs_memory.specs.PageContents.{Contents, byte_at, byte_of, bytes_at, is_blank, is_inside, page_bytes, page_numbered, pages_of, Writes, Fills, Clears}
 use Rattle.chv_pages.specs.Copies.{CopiedAt}
 use Rattle.chv_pages.specs.declared.held.Held.{Held}
@@ -78,11 +79,6 @@ writes-are memory high old mid new block offset from reserved e f a room written
     }
 
 -- ---- filling
-
-bool_eq : (a b : Bool) → (a ≡ true → b ≡ true) → (b ≡ true → a ≡ true) → a ≡ b
-bool_eq true b f g = sym (f refl)
-bool_eq false true f g = g refl
-bool_eq false false f g = refl
 
 page_address : (number block page b at : ℕ) → number ≡ block * 512 + page → page < 512 → is_address number b at ≡ (b == block && is_inside (page * 4096) 4096 at)
 page_address number block page b at e small =

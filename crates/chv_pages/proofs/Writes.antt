@@ -1,14 +1,13 @@
 -- Writes one after another.
-use Rattle.std.proofs.Common.{◌≡◌, ℕ, ◌+◌, ◌-◌, ◌/◌, ◌%◌, ◌<◌, ◌≤◌, Bool, true, false, List, [], ◌∷◌, ◌++◌, refl, sym, ◌∙◌, ap, subst, arith, length, take, drop, inl, inr}
+use Rattle.std.proofs.Common.{◌≡◌, ℕ, ◌+◌, ◌-◌, ◌≤◌, Bool, true, false, List, [], ◌∷◌, ◌++◌, refl, sym, ◌∙◌, ap, subst, arith, length, take, drop, inl, inr}
 use Rattle.std.specs.Prelude.{cond, ◌==◌, ◌&&◌, ◌||◌, map, slice_index, slice_range}
 use Rattle.std.proofs.lemmas.Bool.{cases_lt}
-use Rattle.std.proofs.lemmas.Bool.Decides.{nat_tests}
 use Rattle.std.proofs.lemmas.List.{length-append, length-take}
 use Rattle.std.proofs.Math.ListN.{get_or-append}
 use Rattle.std.proofs.Math.Seq.{get_or-append_right, take-add}
 use Rattle.chv_defs_memory.specs.PageContents.{is_inside}
 use Rattle.chv_pages.specs.declared.held.Held.{Held}
-use Rattle.chv_pages.specs.HeldPages.{has_number, held_at, MakesRoom, WritesHeld}
+use Rattle.chv_pages.specs.HeldPages.{has_number, held_at, WritesHeld}
 use Rattle.chv_pages.proofs.Pieces.{inside_true, outside_below, outside_above}
 
 -- which numbers are held is told by the numbers
@@ -22,22 +21,6 @@ has_number-numbers xs ys n e = told xs ∙ ap (Rattle.std.specs.List.list_any (�
 and_left : (a b : Bool) → b ≡ true → (a && b) ≡ a
 and_left true b h = h
 and_left false b h = refl
-
-and_none : (a b : Bool) → b ≡ false → (a && b) ≡ false
-and_none true b h = h
-and_none false b h = refl
-
-cond_and : (a b : Bool) (x y : ℕ) → cond (a && b) x y ≡ cond a (cond b x y) y
-cond_and true b x y = refl
-cond_and false b x y = refl
-
-cond_same : (a : Bool) (x : ℕ) → cond a x x ≡ x
-cond_same true x = refl
-cond_same false x = refl
-
-cond_twice : (a : Bool) (x y : ℕ) → cond a x (cond a y y) ≡ cond a x y
-cond_twice true x y = refl
-cond_twice false x y = refl
 
 -- two writes in a row are one
 two-bytes : (offset at : ℕ) (xs ys : List ℕ) (same : Bool) (value : ℕ) →
@@ -68,17 +51,6 @@ writes-then old mid new block offset xs ys first second =
           ∙ two-bytes offset at xs ys (b == block) (held_at old b at);
     }
 
-no_bytes : (offset at : ℕ) → is_inside offset 0 at ≡ false
-no_bytes offset at = grind (arith, nat_tests)
-
-pub writes-none : (held : List Held) (block offset : ℕ) → WritesHeld held held block offset []
-writes-none held block offset =
-    record {
-      numbers = refl;
-      keeps = λ high a. a;
-      bytes_after = λ b at. sym (ap (λ x. cond x (slice_index [] (at - offset)) (held_at held b at)) (and_none (b == block) (is_inside offset 0 at) (no_bytes offset at)));
-    }
-
 -- the first bytes, and those of one more piece
 pub writes-more : (old mid new : List Held) (block offset done len : ℕ) (from : List ℕ) → done + len ≤ length from → WritesHeld old mid block offset (take done from) → WritesHeld mid new block (offset + done) (slice_range from done (done + len)) → WritesHeld old new block offset (take (done + len) from)
 writes-more old mid new block offset done len from fits first second =
@@ -91,10 +63,3 @@ writes-more old mid new block offset done len from fits first second =
     let joined : take done from ++ slice_range from done (done + len) ≡ take (done + len) from =
     ap (λ n. take done from ++ take n (drop done from)) width ∙ sym (take-add done len from) in
     subst Q joined both
-
-pub room-then : (old mid new : List Held) → MakesRoom old mid → MakesRoom mid new → MakesRoom old new
-room-then old mid new first second = record { same = second.same ∙ first.same; keeps = λ n h. second.keeps n (first.keeps n h) }
-
--- the offsets of a piece have one page
-pub one-page : (offset done len k : ℕ) → (offset + done) % 4096 + len ≤ 4096 → done ≤ k → k < done + len → (offset + k) / 4096 ≡ (offset + done) / 4096
-one-page offset done len k page low high = omega arith

@@ -1,6 +1,5 @@
 -- Pages that are held, each with its number, pages of all blocks counted. A page that is held may be all zero.
-use Rattle.std.specs.Prelude.{◌≡◌, ◌≢◌, ℕ, suc, zero, ◌+◌, ◌-◌, ◌/◌, ◌%◌, ◌<◌, ◌≤◌, ◌==◌, ◌&&◌, Bool, true, false, nat_lt, slice_get, if◌then◌else◌, List, [], ◌∷◌, length, map, slice_index, Option, None, Some}
-use Rattle.std.specs.Option.{option_map_or}
+use Rattle.std.specs.Prelude.{◌≡◌, ◌≢◌, ℕ, suc, zero, ◌+◌, ◌-◌, ◌/◌, ◌%◌, ◌<◌, ◌≤◌, ◌==◌, ◌&&◌, Bool, true, nat_lt, if◌then◌else◌, List, [], ◌∷◌, length, map, slice_index, Option, None, Some}
 use Rattle.std.specs.List.{filter_map, list_any}
 use Rattle.chv_defs_memory.specs.declared.bank.PageAt.{PageAt}
 use Rattle.chv_defs_memory.specs.PageContents.{is_blank, is_inside}
@@ -24,10 +23,6 @@ abbrev pub IsAt : List Held → ℕ → ℕ → Type 0
 IsAt [] place number = ⊥
 IsAt (h ∷ hs) zero number = h.number ≡ number
 IsAt (h ∷ hs) (suc place) number = (h.number ≢ number) × IsAt hs place number
-
--- whether a page with the number stands at the place
-abbrev pub is_there : List Held → ℕ → ℕ → Bool
-is_there held place number = option_map_or (λ h. h.number == number) (slice_get held place) false
 
 -- pages ascend from a number on and lie below another one, each of 4,096 bytes
 abbrev pub AreHeld : ℕ → ℕ → List Held → Type 0

@@ -7,8 +7,9 @@ ghost use Rattle.chv_pages.specs.Order.{AreInOrder};
 
 use crate::held::Held;
 use crate::page::Page;
-use crate::reads::{find, has_page, is_there, number_of, piece_len, place_of};
+use crate::reads::{find, has_page, number_of, piece_len};
 use chv_defs_base::PAGE_BYTES;
+use chv_lists::locate;
 use std::alloc::{AllocError, Global};
 
 /// Puts a page at its number, in place of the one that has it. Takes no memory.
@@ -19,14 +20,12 @@ pub fn put_page(held: &mut Vec<Held>, number: u64, page: Page)
     ensures len { vec_len held.new ≤ vec_len held.old + 1 }
     ensures room { vec_capacity held.old ≤ vec_capacity held.new }
 {
-    let place = place_of(held.as_slice(), number);
-    if is_there(held.as_slice(), place, number) {
-        held[place] = Held { number, page };
-    } else {
-        match held.insert(place, Held { number, page }) {
+    match locate(held.as_slice(), number) {
+        Ok(place) => held[place] = Held { number, page },
+        Err(place) => match held.insert(place, Held { number, page }) {
             Ok(()) => {}
             Err(_) => unreachable!(),
-        }
+        },
     }
 }
 

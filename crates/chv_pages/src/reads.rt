@@ -1,13 +1,13 @@
 // Looking pages up, and reading them.
 ghost use Rattle.std.specs.Prelude.{◌≡◌, ◌==◌, ◌+◌, ◌-◌, ◌*◌, ◌<◌, ◌≤◌, ◌/◌, ◌%◌, ℕ, nat_lt, false, length, min, slice_index, MatchOption};
-ghost use Rattle.std.specs.List.{prefix_len};
 ghost use Rattle.chv_defs_memory.specs.PageContents.{is_inside};
-ghost use Rattle.chv_pages.specs.HeldPages.{has_number, held_at, is_there, IsAt};
+ghost use Rattle.chv_pages.specs.HeldPages.{has_number, held_at, IsAt};
 ghost use Rattle.chv_pages.specs.Order.{AreInOrder};
 
 use crate::copies::{clear_at, copy_at};
 use crate::held::Held;
 use chv_defs_base::PAGE_BYTES;
+use chv_lists::{Stretch, locate};
 
 const BLOCK_PAGES: u64 = 512;
 
@@ -19,17 +19,27 @@ pub fn number_of(block: u32, offset: usize) -> u64
     block as u64 * BLOCK_PAGES + (offset / PAGE_BYTES) as u64
 }
 
+// A page is the stretch of its number alone.
+impl Stretch for Held {
+    ghost start = { λ h. h.number };
+
+    ghost end = { λ h. h.number + 1 };
+
+    fn begins_by(&self, at: u64) -> bool {
+        self.number <= at
+    }
+
+    fn ends_by(&self, at: u64) -> bool {
+        self.number < at
+    }
+}
+
 /// The place of the page with a number.
 pub fn find(held: &[Held], number: u64) -> Option<usize>
     requires { AreInOrder held.now }
     ensures { MatchOption result (has_number held.now number ≡ false) (λ place. (place < length held.now) × IsAt held.now place number) }
 {
-    let place = place_of(held, number);
-    if is_there(held, place, number) {
-        Some(place)
-    } else {
-        None
-    }
+    locate(held, number).ok()
 }
 
 /// Whether the page with a number is held.
@@ -37,32 +47,7 @@ pub fn has_page(held: &[Held], number: u64) -> bool
     requires { AreInOrder held.now }
     ensures { result ≡ has_number held.now number }
 {
-    is_there(held, place_of(held, number), number)
-}
-
-/// The place of the first page whose number is not below a number.
-pub fn place_of(held: &[Held], number: u64) -> usize
-    requires { AreInOrder held.now }
-    ensures { result ≡ prefix_len (λ h. nat_lt h.number number) held.now }
-{
-    held.partition_point(|h| is_below(h, number))
-}
-
-// Whether a page's number is below a number.
-fn is_below(held: &Held, number: u64) -> bool
-    ensures { result ≡ nat_lt held.now.number number }
-{
-    held.number < number
-}
-
-/// Whether a page with the number stands at the place.
-pub fn is_there(held: &[Held], place: usize, number: u64) -> bool
-    ensures { result ≡ is_there held.now place number }
-{
-    match held.get(place) {
-        Some(h) => h.number == number,
-        None => false,
-    }
+    locate(held, number).is_ok()
 }
 
 /// How many of `len` bytes from an offset on lie in its page.

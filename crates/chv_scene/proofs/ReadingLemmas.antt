@@ -48,10 +48,6 @@ pub step_outside : (ended : Sessions) (asked : Option (List Asked)) (text : List
 step_outside ended None text h n lines = of_top (λ s. ended ++ s) n (top_word (length ended) (at_space text).0 (at_space text).1) (read_lines true (length ended + 1) (n + 1) lines)
 step_outside ended (Some requests) text h n lines = let no : true ≡ false = h in cc
 
--- one that fails
-pub fails_outside : (ended : Sessions) (asked : Option (List Asked)) (text : List ℕ) (reason : Reason) → IsNone asked → Some reason ≡ top_word (length ended) (at_space text).0 (at_space text).1 → (n : ℕ) (lines : List Line) → read_from ended asked n (record { text = text; is_ended = true } ∷ lines) ≡ Err (record { line = n; reason = reason })
-fails_outside ended asked text reason h fault n lines = step_outside ended asked text h n lines ∙ ap (λ f. top_part n f (read_from ended (Some []) (n + 1) lines)) (sym fault)
-
 -- one that opens a section
 pub opens_outside : (ended new_ended : Sessions) (asked new_asked : Option (List Asked)) (text : List ℕ) → IsNone asked → None ≡ top_word (length ended) (at_space text).0 (at_space text).1 → new_ended ≡ ended → new_asked ≡ Some [] → (n : ℕ) (lines : List Line) → read_from ended asked n (record { text = text; is_ended = true } ∷ lines) ≡ read_from new_ended new_asked (n + 1) lines
 opens_outside ended new_ended asked new_asked text h fault e a n lines =

@@ -6,15 +6,11 @@ use Rattle.std.specs.Option.{option_map_or}
 use Rattle.std.proofs.lemmas.Bool.Decides.{nat_tests}
 use Rattle.std.proofs.lemmas.Bool.{cases_order}
 use Rattle.std.proofs.lemmas.List.{take_more, length-take, append-nil}
+use Rattle.chv_lists.proofs.Bools.{bool_eq}
 use Rattle.chv_defs_memory.specs.declared.bank.Span.{Span}
 use Rattle.chv_defs_memory.specs.BlockSets.{has, members_from, members, runs_of, onto_runs, ranges_of, is_within, AreApart}
 use Rattle.chv_set.specs.Runs.{touches_end, longer, onto_end}
 use Rattle.chv_set.proofs.Members.{members_from-snoc}
-
-pub bool_eq : (a b : Bool) → (a ≡ true → b ≡ true) → (b ≡ true → a ≡ true) → a ≡ b
-bool_eq true b f g = sym (f refl)
-bool_eq false true f g = g refl
-bool_eq false false f g = refl
 
 -- a run that begins one number earlier ends at the same place
 moved : (x : ℕ) (run : Span) (k : ℕ) {t : Bool} → (run.first == x + 1) ≡ true → (run.first + run.count == k) ≡ t → (x + (run.count + 1) == k) ≡ t

@@ -1,10 +1,11 @@
 -- Sets as lists of truth values.
-use Rattle.std.proofs.Common.{◌≡◌, ℕ, ◌+◌, ◌<◌, ◌≤◌, Bool, true, false, List, refl, sym, ◌∙◌, arith, length, replicate, zero-add, inl, inr}
+use Rattle.std.proofs.Common.{◌≡◌, ℕ, ◌+◌, ◌<◌, ◌≤◌, Bool, true, false, List, sym, ◌∙◌, arith, length, replicate, zero-add, inl, inr}
 use Rattle.std.specs.Prelude.{not, ◌||◌, ◌&&◌}
 use Rattle.std.proofs.lemmas.List.{ext_get_or, get_or-replicate, length-replicate}
 use Rattle.std.proofs.lemmas.List.FromFn.{get_or-map-range_with_len, length-map-range_with_len}
 use Rattle.std.proofs.lemmas.Bool.{cases_lt}
 use Rattle.std.proofs.lemmas.Bool.Decides.{nat_tests}
+use Rattle.chv_lists.proofs.Bools.{and_false, and_true, or_false, or_true}
 use Rattle.chv_defs_memory.specs.declared.bank.Span.{Span}
 use Rattle.chv_defs_memory.specs.BlockSets.{has, numbers_where, is_within, no_blocks, with_span, without_span}
 
@@ -34,22 +35,6 @@ within_false-above span k h = grind (arith, nat_tests)
 
 within_true : (span : Span) (k : ℕ) → span.first ≤ k → k < span.first + span.count → is_within span k ≡ true
 within_true span k h g = grind (arith, nat_tests)
-
-or_true : (a : Bool) → (a || true) ≡ true
-or_true true = refl
-or_true false = refl
-
-or_false : (a : Bool) → (a || false) ≡ a
-or_false true = refl
-or_false false = refl
-
-and_false : (a : Bool) → (a && false) ≡ false
-and_false true = refl
-and_false false = refl
-
-and_true : (a : Bool) → (a && true) ≡ a
-and_true true = refl
-and_true false = refl
 
 -- with true it is the set with the span
 pub with_span-is : (old new : List Bool) (span : Span) → PutsAll old new span.first span.count true → new ≡ with_span old span

@@ -1,5 +1,5 @@
 -- Texts that are joined, and the parts of a trace's text.
-use Rattle.std.proofs.Common.{◌≡◌, ℕ, ◌+◌, ◌<◌, List, [], ◌∷◌, ◌++◌, length, take, drop, get_or, flat_map, codes, decimal, Result, Ok, Err, IfOk, IsOkAnd, sym, ◌∙◌, ap, append_assoc}
+use Rattle.std.proofs.Common.{◌≡◌, ℕ, ◌+◌, ◌<◌, List, [], ◌∷◌, ◌++◌, length, take, drop, get_or, flat_map, codes, decimal, Result, Ok, Err, IfOk, sym, ◌∙◌, ap, append_assoc}
 use Rattle.std.proofs.lemmas.List.{append-nil, take-append-drop}
 use Rattle.std.proofs.lemmas.Grind.{take_at_read, flat_map-append}
 use Rattle.chv_defs_scene.specs.ScriptText.{field}
@@ -33,12 +33,6 @@ cpu_same v p f h r flag regs same_flag same_regs =
 pub printed_same : {S E : Type 0} (bytes : S → List ℕ) (r : Result S E) (a b : List ℕ) → IfOk r (λ s. bytes s ≡ a) → a ≡ b → IfOk r (λ s. bytes s ≡ b)
 printed_same bytes (Ok s) a b h e = h ∙ e
 printed_same bytes (Err x) a b h e = tt
-
--- a word and a text that was made
-pub made_after : {S E : Type 0} (bytes : S → List ℕ) (r : Result S E) (made : Result (List ℕ) E) (word text : List ℕ) → IfOk r (λ s. IsOkAnd made (λ t. bytes s ≡ word ++ t)) → IfOk made (λ t. t ≡ text) → IfOk r (λ s. bytes s ≡ word ++ text)
-made_after bytes (Err x) made word text joined same = tt
-made_after bytes (Ok s) (Ok t) word text joined same = joined ∙ ap (λ l. word ++ l) same
-made_after bytes (Ok s) (Err e) word text joined same = absurd joined
 
 -- the items up to the next one
 pub flat_map_next : {X : Type 0} (f : X → List ℕ) (xs : List X) (i : ℕ) (d x : X) → i < length xs → x ≡ get_or xs i d → flat_map f (take i xs) ++ f x ≡ flat_map f (take (i + 1) xs)

@@ -2,20 +2,12 @@
 use Rattle.std.proofs.Common.{◌≡◌, ℕ, List, [], ◌++◌, length, take, drop, Option, None, Some, Result, Ok, Err, OnOk, OnErr, sym, ap, subst, ◌∙◌, arith, append_assoc, length-append, refl}
 use Rattle.std.proofs.lemmas.List.{append-nil, take-append-drop}
 use Rattle.std.proofs.Math.Seq.{take-append_seam}
+use Rattle.std.proofs.lemmas.Result.{on_ok_weaker, on_err_weaker}
+use Rattle.chv_io.proofs.Gained.{gains_join}
 use Rattle.chv_io.specs.Outside.{Puts, Gains, GainsPart}
 use Rattle.chv_trace.specs.Printing.{Adds, BreaksOff}
 
 -- ---- what was put, in two parts
-
-none_gains : (b c : Option (List ℕ)) (ys : List ℕ) → b ≡ None → Gains b c ys → c ≡ None
-none_gains None c ys same second = second
-none_gains (Some b) c ys same second = absurd (cc same)
-
-gains_join : (a b c : Option (List ℕ)) (xs ys : List ℕ) → Gains a b xs → Gains b c ys → Gains a c (xs ++ ys)
-gains_join None b c xs ys first second = none_gains b c ys first second
-gains_join (Some a) None c xs ys first second = absurd first
-gains_join (Some a) (Some b) None xs ys first second = absurd second
-gains_join (Some a) (Some b) (Some c) xs ys first second = second ∙ ap (λ l. l ++ ys) first ∙ append_assoc a xs ys
 
 -- where bytes were put and the others are held, and then some of those are put
 moved : (p i h x q j y : List ℕ) → p ++ i ≡ h ++ x → q ++ j ≡ i ++ y → (p ++ q) ++ j ≡ h ++ (x ++ y)
@@ -46,25 +38,17 @@ breaks_before {a} {b} {h} {xs} first ys = record {
 
 -- ---- at the end of a call
 
-on_err : {T E P Q : Type 0} (result : Result T E) → (P → Q) → OnErr result P → OnErr result Q
-on_err (Ok x) f p = tt
-on_err (Err e) f p = f p
-
-on_ok : {T E P Q : Type 0} (result : Result T E) → (P → Q) → OnOk result P → OnOk result Q
-on_ok (Ok x) f p = f p
-on_ok (Err e) f p = tt
-
 always_on_err : {T E P : Type 0} (result : Result T E) → P → OnErr result P
 always_on_err (Ok x) p = tt
 always_on_err (Err e) p = p
 
 -- all was added, the last by this call
 pub last_added : {T E : Type 0} (result : Result T E) {a b : Option (List ℕ)} {h i xs : List ℕ} (c : Option (List ℕ)) (j ys : List ℕ) → Adds a h b i xs → OnOk result (Adds b i c j ys) → (all : List ℕ) → xs ++ ys ≡ all → OnOk result (Adds a h c j all)
-last_added result {a} {b} {h} {i} {xs} c j ys first second all same = on_ok result (λ s. subst (λ l. Adds a h c j l) same (adds_two first s)) second
+last_added result {a} {b} {h} {i} {xs} c j ys first second all same = on_ok_weaker result (λ s. subst (λ l. Adds a h c j l) same (adds_two first s)) second
 
 -- the last was broken off in this call
 pub last_broken : {T E : Type 0} (result : Result T E) {a b : Option (List ℕ)} {h i xs : List ℕ} (c : Option (List ℕ)) (ys : List ℕ) → Adds a h b i xs → OnErr result (BreaksOff b i c ys) → (all : List ℕ) → xs ++ ys ≡ all → OnErr result (BreaksOff a h c all)
-last_broken result {a} {b} {h} {i} {xs} c ys first second all same = on_err result (λ s. subst (λ l. BreaksOff a h c l) same (breaks_later first s)) second
+last_broken result {a} {b} {h} {i} {xs} c ys first second all same = on_err_weaker result (λ s. subst (λ l. BreaksOff a h c l) same (breaks_later first s)) second
 
 -- the first was broken off
 pub first_broken : {T E : Type 0} (result : Result T E) {a b : Option (List ℕ)} {h xs : List ℕ} → BreaksOff a h b xs → (rest all : List ℕ) → xs ++ rest ≡ all → OnErr result (BreaksOff a h b all)
@@ -110,7 +94,7 @@ broken_before result none broken = always_on_err result (part_of_all none broken
 
 -- it was broken off as the last was put
 pub broken_last : {T E : Type 0} (result : Result T E) {a b : Option (List ℕ)} {h i xs : List ℕ} (c : Option (List ℕ)) → h ≡ [] → Adds a h b i xs → OnErr result (BreaksOff b i c []) → OnErr result (GainsPart a c xs)
-broken_last result {a} {b} {h} {i} {xs} c none first second = on_err result (λ s. part_of_all none (subst (λ l. BreaksOff a h c l) (append-nil xs) (breaks_later first s))) second
+broken_last result {a} {b} {h} {i} {xs} c none first second = on_err_weaker result (λ s. part_of_all none (subst (λ l. BreaksOff a h c l) (append-nil xs) (breaks_later first s))) second
 
 -- all was put
 pub put_whole : {T E : Type 0} (result : Result T E) {a b : Option (List ℕ)} {h i xs : List ℕ} (c : Option (List ℕ)) (j : List ℕ) → h ≡ [] → Adds a h b i xs → OnOk result (Adds b i c j []) → OnOk result (j ≡ []) → OnOk result (Gains a c xs)

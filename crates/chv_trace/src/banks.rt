@@ -8,6 +8,7 @@ ghost use Rattle.chv_trace.specs.Printing.{Adds, BreaksOff, bank_head};
 
 use crate::PrintError;
 use crate::bank_texts::{call_text, reply_text};
+use crate::lines::{Line, push_lines};
 use crate::pieces::push;
 use chv_defs::{BankEntry, BankTrace};
 use chv_io::Sink;
@@ -44,7 +45,7 @@ fn push_bank<K: Sink>(
     ensures later { K.write_faults out.old ≤ K.write_faults out.new }
 {
     push_head(alloc, out, buffer, bank)?;
-    push_entries(alloc, out, buffer, bank.entries.as_slice())
+    push_lines(alloc, out, buffer, bank.entries.as_slice())
 }
 
 // A line of the zone and the number of a bank, and how many entries it has.
@@ -69,44 +70,14 @@ fn head_line(alloc: Global, zone: u8, bank: u8, entries: usize) -> Result<String
     format!(in alloc; "bank {zone} {bank} {entries}\n")
 }
 
-fn push_entries<K: Sink>(
-    alloc: Global,
-    out: &mut K,
-    buffer: &mut String,
-    entries: &[BankEntry],
-) -> Result<(), PrintError>
-    ensures ok { OnOk result (Adds (K.written out.old) (string_bytes buffer.old) (K.written out.new) (string_bytes buffer.new) (flat_map bank_line entries.now)) }
-    ensures part { OnErr result (BreaksOff (K.written out.old) (string_bytes buffer.old) (K.written out.new) (flat_map bank_line entries.now)) }
-    ensures cause { result ≡ Err PrintError.Failed → Rose (K.write_faults out.old) (K.write_faults out.new) }
-    ensures later { K.write_faults out.old ≤ K.write_faults out.new }
-{
-    for entry in entries {
-        push_entry(alloc, out, buffer, entry)?;
+impl Line for BankEntry {
+    ghost text = { bank_line };
+
+    // The caller, the call, an arrow, the reply.
+    fn line(&self, alloc: Global) -> Result<String, AllocError> {
+        let caller = self.caller;
+        let call = call_text(alloc, &self.call)?;
+        let reply = reply_text(alloc, &self.reply)?;
+        format!(in alloc; "{caller} {call} -> {reply}\n")
     }
-    Ok(())
-}
-
-fn push_entry<K: Sink>(
-    alloc: Global,
-    out: &mut K,
-    buffer: &mut String,
-    entry: &BankEntry,
-) -> Result<(), PrintError>
-    ensures ok { OnOk result (Adds (K.written out.old) (string_bytes buffer.old) (K.written out.new) (string_bytes buffer.new) (bank_line entry.now)) }
-    ensures part { OnErr result (BreaksOff (K.written out.old) (string_bytes buffer.old) (K.written out.new) (bank_line entry.now)) }
-    ensures cause { result ≡ Err PrintError.Failed → Rose (K.write_faults out.old) (K.write_faults out.new) }
-    ensures later { K.write_faults out.old ≤ K.write_faults out.new }
-{
-    let line = entry_line(alloc, entry)?;
-    push(out, buffer, line.as_str())
-}
-
-// The line of an entry: the caller, the call, an arrow, the reply.
-fn entry_line(alloc: Global, entry: &BankEntry) -> Result<String, AllocError>
-    ensures { IfOk result (λ line. string_bytes line ≡ bank_line entry.now) }
-{
-    let caller = entry.caller;
-    let call = call_text(alloc, &entry.call)?;
-    let reply = reply_text(alloc, &entry.reply)?;
-    format!(in alloc; "{caller} {call} -> {reply}\n")
 }

@@ -6,6 +6,7 @@ mod bank_texts;
 mod banks;
 mod calls;
 mod fields;
+mod lines;
 mod notes;
 mod pieces;
 mod print_error;

@@ -7,6 +7,7 @@ ghost use Rattle.chv_trace.specs.Printing.{Adds, BreaksOff, head_text};
 use crate::PrintError;
 use crate::banks::push_banks;
 use crate::calls::call_text;
+use crate::lines::{Line, push_lines};
 use crate::pieces::{push, put_all};
 use crate::replies::reply_text;
 use crate::sessions::push_sessions;
@@ -44,7 +45,7 @@ fn push_trace<K: Sink>(
     ensures later { K.write_faults out.old ≤ K.write_faults out.new }
 {
     push_head(alloc, out, buffer, trace.control.len())?;
-    push_entries(alloc, out, buffer, trace.control.as_slice())?;
+    push_lines(alloc, out, buffer, trace.control.as_slice())?;
     push_banks(alloc, out, buffer, trace.banks.as_slice())?;
     push_sessions(alloc, out, buffer, trace.sessions.as_slice())?;
     push(out, buffer, "end\n")
@@ -73,44 +74,14 @@ fn head(alloc: Global, entries: usize) -> Result<String, AllocError>
     format!(in alloc; "trace 1\nscene {lines}\ncontrol {entries}\n")
 }
 
-fn push_entries<K: Sink>(
-    alloc: Global,
-    out: &mut K,
-    buffer: &mut String,
-    entries: &[ControlEntry],
-) -> Result<(), PrintError>
-    ensures ok { OnOk result (Adds (K.written out.old) (string_bytes buffer.old) (K.written out.new) (string_bytes buffer.new) (flat_map control_line entries.now)) }
-    ensures part { OnErr result (BreaksOff (K.written out.old) (string_bytes buffer.old) (K.written out.new) (flat_map control_line entries.now)) }
-    ensures cause { result ≡ Err PrintError.Failed → Rose (K.write_faults out.old) (K.write_faults out.new) }
-    ensures later { K.write_faults out.old ≤ K.write_faults out.new }
-{
-    for entry in entries {
-        push_entry(alloc, out, buffer, entry)?;
+impl Line for ControlEntry {
+    ghost text = { control_line };
+
+    // The caller, the call, an arrow, the reply.
+    fn line(&self, alloc: Global) -> Result<String, AllocError> {
+        let caller = self.caller;
+        let call = call_text(alloc, &self.call)?;
+        let reply = reply_text(alloc, &self.reply)?;
+        format!(in alloc; "{caller} {call} -> {reply}\n")
     }
-    Ok(())
-}
-
-fn push_entry<K: Sink>(
-    alloc: Global,
-    out: &mut K,
-    buffer: &mut String,
-    entry: &ControlEntry,
-) -> Result<(), PrintError>
-    ensures ok { OnOk result (Adds (K.written out.old) (string_bytes buffer.old) (K.written out.new) (string_bytes buffer.new) (control_line entry.now)) }
-    ensures part { OnErr result (BreaksOff (K.written out.old) (string_bytes buffer.old) (K.written out.new) (control_line entry.now)) }
-    ensures cause { result ≡ Err PrintError.Failed → Rose (K.write_faults out.old) (K.write_faults out.new) }
-    ensures later { K.write_faults out.old ≤ K.write_faults out.new }
-{
-    let line = entry_line(alloc, entry)?;
-    push(out, buffer, line.as_str())
-}
-
-/// The line of an entry: the caller, the call, an arrow, the reply.
-pub(crate) fn entry_line(alloc: Global, entry: &ControlEntry) -> Result<String, AllocError>
-    ensures { IfOk result (λ line. string_bytes line ≡ control_line entry.now) }
-{
-    let caller = entry.caller;
-    let call = call_text(alloc, &entry.call)?;
-    let reply = reply_text(alloc, &entry.reply)?;
-    format!(in alloc; "{caller} {call} -> {reply}\n")
 }

@@ -1,26 +1,20 @@
-use Rattle.std.proofs.Common.{◌≡◌, ◌∙◌, List, true, false, sym, ap}
-use Rattle.std.specs.Prelude.{nat_lt}
-use Rattle.std.specs.List.{prefix_len}
-use Rattle.chv_bank.specs.CallerPins.{CallerPins, is_row_of}
-use Rattle.chv_bank.proofs.RowLaws.{without-set-at, without-none, total-set-at}
+-- crates/chv_bank/proofs/pins/take_pin/Answers.antt
+use Rattle.std.proofs.Common.{◌∙◌, ◌+◌, sym, subst}
+use Rattle.chv_lists.specs.Locate.{Follow}
+use Rattle.chv_bank.specs.CallerPins.{CallerPins}
+use Rattle.chv_bank.proofs.RowLaws.{rows-follow, total-found, without-found, without-missed}
 use Rattle.chv_bank.proofs.pins.take_pin.Goals as goal
 
-pub returns-then-is_row_of-clause-rows : goal.returns-then-is_row_of-clause-rows
-returns-then-is_row_of-clause-rows c =
-    let items : List CallerPins = c.args.rows.now.items in
-    let there : is_row_of items c.count_below-place.result c.args.caller ≡ true = sym (ap (λ (rows : List CallerPins). is_row_of rows c.count_below-place.result c.args.caller) c.as_slice-2.ensures.value) ∙ sym c.is_row_of.ensures ∙ c.if-is_row_of.true in
-    without-set-at items c.count_below-place.result c.index_mut.result.now c.remove.new.self c.args.caller c.args.number c.requires there c.index_mut.ensures.value c.remove.ensures.others
+pub locate-requires : goal.locate-requires
+locate-requires c = subst (Follow (λ (row : CallerPins). row.caller) (λ (row : CallerPins). row.caller + 1) 0) (sym c.as_slice.ensures.value) (rows-follow 0 c.args.rows.now.items c.requires)
 
-pub returns-then-is_row_of-clause-fewer : goal.returns-then-is_row_of-clause-fewer
-returns-then-is_row_of-clause-fewer c =
-    let items : List CallerPins = c.args.rows.now.items in
-    let there : is_row_of items c.count_below-place.result c.args.caller ≡ true = sym (ap (λ (rows : List CallerPins). is_row_of rows c.count_below-place.result c.args.caller) c.as_slice-2.ensures.value) ∙ sym c.is_row_of.ensures ∙ c.if-is_row_of.true in
-    total-set-at items c.count_below-place.result c.index_mut.result.now c.remove.new.self c.args.caller c.args.number c.remove.result c.requires there c.index_mut.ensures.value c.remove.ensures.others c.remove.ensures.fewer
+pub returns-in-Ok-clause-rows : goal.returns-in-Ok-clause-rows
+returns-in-Ok-clause-rows c =
+    without-found c.args.rows.now.items c.as_slice.result.now c.in-Ok.place c.index_mut.result.now c.remove.new.self c.args.caller c.args.number c.as_slice.ensures.value (sym c.locate.ensures.place ∙ c.in-Ok.is) c.index_mut.ensures.value c.remove.ensures.others
 
-pub returns-else-is_row_of-clause-rows : goal.returns-else-is_row_of-clause-rows
-returns-else-is_row_of-clause-rows c =
-    let items : List CallerPins = c.args.rows.now.items in
-    let place : c.count_below-place.result ≡ prefix_len (λ (row : CallerPins). nat_lt row.caller c.args.caller) items = c.count_below-place.ensures ∙ ap (prefix_len (λ (row : CallerPins). nat_lt row.caller c.args.caller)) c.as_slice.ensures.value in
-    let none : is_row_of items (prefix_len (λ (row : CallerPins). nat_lt row.caller c.args.caller) items) c.args.caller ≡ false =
-    sym (ap (λ (rows : List CallerPins). is_row_of rows c.count_below-place.result c.args.caller) c.as_slice-2.ensures.value ∙ ap (λ k. is_row_of items k c.args.caller) place) ∙ sym c.is_row_of.ensures ∙ c.if-is_row_of.false in
-    sym (without-none 0 items c.args.caller c.args.number c.requires none)
+pub returns-in-Ok-clause-fewer : goal.returns-in-Ok-clause-fewer
+returns-in-Ok-clause-fewer c =
+    total-found c.args.rows.now.items c.as_slice.result.now c.in-Ok.place c.index_mut.result.now c.remove.new.self c.args.caller c.args.number c.remove.result c.as_slice.ensures.value (sym c.locate.ensures.place ∙ c.in-Ok.is) c.index_mut.ensures.value c.remove.ensures.others c.remove.ensures.fewer
+
+pub returns-in-Err-clause-rows : goal.returns-in-Err-clause-rows
+returns-in-Err-clause-rows c = sym (without-missed c.args.rows.now.items c.as_slice.result.now c.in-Err.field-0 c.args.caller c.args.number c.requires c.as_slice.ensures.value (sym c.locate.ensures.place ∙ c.in-Err.is))

@@ -1,9 +1,6 @@
-use Rattle.std.proofs.Common.{◌∙◌, sym}
-use Rattle.chv_pages.proofs.Search.{find-some, find-none}
+-- crates/chv_pages/proofs/reads/find/Answers.antt
+use Rattle.chv_pages.proofs.Search.{find-located}
 use Rattle.chv_pages.proofs.reads.find.Goals as goal
 
-pub returns-then-is_there : goal.returns-then-is_there
-returns-then-is_there c = find-some c.args.held.now c.place_of-place.result c.args.number c.place_of-place.ensures (sym c.is_there.ensures ∙ c.if-is_there.true)
-
-pub returns-else-is_there : goal.returns-else-is_there
-returns-else-is_there c = find-none c.args.held.now c.place_of-place.result c.args.number c.requires c.place_of-place.ensures (sym c.is_there.ensures ∙ c.if-is_there.false)
+pub returns : goal.returns
+returns c = rw (c.ok.ensures.value, c.locate.ensures.place) (find-located c.args.held.now c.args.number c.requires)

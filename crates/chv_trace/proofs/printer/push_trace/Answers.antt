@@ -15,13 +15,13 @@ returns-in_err-push_head-clause-part g c =
     first_broken _ c.in_err-push_head.ensures.part (entries ++ (banks ++ (sessions ++ codes "end\n"))) _
     (four_follow head entries banks sessions (codes "end\n") (trace_parts t c.len.result t.control t.banks t.sessions c.requires.disks c.requires.vcpus c.len.ensures refl refl refl))
 
-pub returns-in_err-push_entries-clause-part : goal.returns-in_err-push_entries-clause-part
-returns-in_err-push_entries-clause-part g c =
+pub returns-in_err-push_lines-clause-part : goal.returns-in_err-push_lines-clause-part
+returns-in_err-push_lines-clause-part g c =
     let t = c.args.trace.now in
     let begun = head_text c.len.result ++ flat_map control_line c.as_slice.result.now in
     let banks = flat_map bank_part t.banks in
     let sessions = flat_map session_part t.sessions in
-    next_broken _ c.in_ok-push_head.ensures.ok c.in_err-push_entries.ensures.part (banks ++ (sessions ++ codes "end\n")) _
+    next_broken _ c.in_ok-push_head.ensures.ok c.in_err-push_lines.ensures.part (banks ++ (sessions ++ codes "end\n")) _
     (three_follow begun banks sessions (codes "end\n") (trace_parts t c.len.result c.as_slice.result.now t.banks t.sessions c.requires.disks c.requires.vcpus c.len.ensures c.as_slice.ensures refl refl))
 
 pub returns-in_err-push_banks-clause-part : goal.returns-in_err-push_banks-clause-part
@@ -29,20 +29,20 @@ returns-in_err-push_banks-clause-part g c =
     let t = c.args.trace.now in
     let begun = head_text c.len.result ++ flat_map control_line c.as_slice.result.now ++ flat_map bank_part c.as_slice-2.result.now in
     let sessions = flat_map session_part t.sessions in
-    next_broken _ (adds_two c.in_ok-push_head.ensures.ok c.in_ok-push_entries.ensures.ok) c.in_err-push_banks.ensures.part (sessions ++ codes "end\n") _
+    next_broken _ (adds_two c.in_ok-push_head.ensures.ok c.in_ok-push_lines.ensures.ok) c.in_err-push_banks.ensures.part (sessions ++ codes "end\n") _
     (two_follow begun sessions (codes "end\n") (trace_parts t c.len.result c.as_slice.result.now c.as_slice-2.result.now t.sessions c.requires.disks c.requires.vcpus c.len.ensures c.as_slice.ensures c.as_slice-2.ensures refl))
 
 pub returns-in_err-push_sessions-clause-part : goal.returns-in_err-push_sessions-clause-part
 returns-in_err-push_sessions-clause-part g c =
-    next_broken _ (adds_two (adds_two c.in_ok-push_head.ensures.ok c.in_ok-push_entries.ensures.ok) c.in_ok-push_banks.ensures.ok) c.in_err-push_sessions.ensures.part (codes "end\n") _
+    next_broken _ (adds_two (adds_two c.in_ok-push_head.ensures.ok c.in_ok-push_lines.ensures.ok) c.in_ok-push_banks.ensures.ok) c.in_err-push_sessions.ensures.part (codes "end\n") _
     (trace_parts c.args.trace.now c.len.result c.as_slice.result.now c.as_slice-2.result.now c.as_slice-3.result.now c.requires.disks c.requires.vcpus c.len.ensures c.as_slice.ensures c.as_slice-2.ensures c.as_slice-3.ensures)
 
 pub returns-clause-ok : goal.returns-clause-ok
 returns-clause-ok g c =
-    last_added _ _ _ _ (adds_two (adds_two (adds_two c.in_ok-push_head.ensures.ok c.in_ok-push_entries.ensures.ok) c.in_ok-push_banks.ensures.ok) c.in_ok-push_sessions.ensures.ok) c.push.ensures.ok _
+    last_added _ _ _ _ (adds_two (adds_two (adds_two c.in_ok-push_head.ensures.ok c.in_ok-push_lines.ensures.ok) c.in_ok-push_banks.ensures.ok) c.in_ok-push_sessions.ensures.ok) c.push.ensures.ok _
     (trace_parts c.args.trace.now c.len.result c.as_slice.result.now c.as_slice-2.result.now c.as_slice-3.result.now c.requires.disks c.requires.vcpus c.len.ensures c.as_slice.ensures c.as_slice-2.ensures c.as_slice-3.ensures)
 
 pub returns-clause-part : goal.returns-clause-part
 returns-clause-part g c =
-    last_broken _ _ _ (adds_two (adds_two (adds_two c.in_ok-push_head.ensures.ok c.in_ok-push_entries.ensures.ok) c.in_ok-push_banks.ensures.ok) c.in_ok-push_sessions.ensures.ok) c.push.ensures.part _
+    last_broken _ _ _ (adds_two (adds_two (adds_two c.in_ok-push_head.ensures.ok c.in_ok-push_lines.ensures.ok) c.in_ok-push_banks.ensures.ok) c.in_ok-push_sessions.ensures.ok) c.push.ensures.part _
     (trace_parts c.args.trace.now c.len.result c.as_slice.result.now c.as_slice-2.result.now c.as_slice-3.result.now c.requires.disks c.requires.vcpus c.len.ensures c.as_slice.ensures c.as_slice-2.ensures c.as_slice-3.ensures)
