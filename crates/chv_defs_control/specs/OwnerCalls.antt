@@ -11,6 +11,7 @@ use Rattle.chv_defs_memory.specs.declared.bank.BankCall.{BankCall}
 use Rattle.chv_defs_memory.specs.declared.bank.BankCall.TheVariants as bank_call
 use Rattle.chv_defs_memory.specs.declared.bank.BankEntry.{BankEntry}
 use Rattle.chv_defs_memory.specs.declared.bank.Refusal.{Refusal}
+use Rattle.chv_defs_api.specs.declared.control.Goal.{Goal}
 use Rattle.chv_defs_api.specs.declared.control.Goal.TheVariants.{Shutdown, Delete}
 use Rattle.chv_defs_api.specs.declared.control.ControlCall.{ControlCall}
 use Rattle.chv_defs_api.specs.declared.control.ControlCall.TheVariants as call
@@ -102,10 +103,14 @@ BootOpensTheBootBlocks =
     → AreMade lent bank before (owner_calls m call.Boot reply.Done zone bank) after
     → is_open bank after block ≡ nat_lt block (blocks_in config.size)
 
--- The law of a wipe: behind the calls of a shutdown or a delete no block of a bank of a zone in effect is open.
-abbrev pub WipeClosesAll : Type 0
-WipeClosesAll =
+-- Behind the calls of a request with this goal that is done no block of a bank of a zone in effect is open.
+abbrev pub ClosesAll : Goal → Type 0
+ClosesAll goal =
     (lent : List ℕ) (m : Machine) (config : ZoneConfig) (zone bank block : ℕ) (before after : List BankEntry)
     → slice_get (zones_of m) zone ≡ Some config
-    → AreMade lent bank before (owner_calls m (call.Begin Delete) reply.Done zone bank) after
+    → AreMade lent bank before (owner_calls m (call.Begin goal) reply.Done zone bank) after
     → is_open bank after block ≡ false
+
+-- The law of a wipe: a shutdown closes all, and so does a delete.
+abbrev pub WipeClosesAll : Type 0
+WipeClosesAll = ClosesAll Shutdown × ClosesAll Delete
