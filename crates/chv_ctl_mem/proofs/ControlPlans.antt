@@ -112,7 +112,9 @@ for-calls m (control.Begin goal.Delete) reply.Done p is = record {
 }
 for-calls m c r p is = absurd (cc is)
 
--- a control call without a plan stands for no calls
+-- ---- a control call without a plan
+
+-- it stands for no calls
 for-none : (m : Machine) (c : ControlCall) (r : ControlReply) (config : ZoneConfig) (zone bank : ℕ) → plan_for m.life c r ≡ None → calls_in m config zone bank c r ≡ []
 for-none m control.Boot reply.Done config zone bank is = absurd (cc is)
 for-none m (control.Begin goal.Shutdown) reply.Done config zone bank is = absurd (cc is)

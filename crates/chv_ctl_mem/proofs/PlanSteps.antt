@@ -12,16 +12,15 @@ use Rattle.chv_defs_base.specs.Sizes.{blocks_in}
 use Rattle.chv_defs_control.specs.declared.machine.Machine.{Machine}
 use Rattle.chv_defs_control.specs.Machine.{HasChecked}
 use Rattle.chv_defs_control.specs.OwnerCalls.{zones_of, IsLeft}
-use Rattle.chv_defs_memory.specs.declared.bank.BankCall.{BankCall}
 use Rattle.chv_defs_memory.specs.declared.bank.BankCall.TheVariants as call
 use Rattle.chv_defs_memory.specs.declared.bank.BankEntry.{BankEntry}
-use Rattle.chv_defs_memory.specs.declared.bank.BankReply.{BankReply}
 use Rattle.chv_defs_memory.specs.declared.bank.BankReply.TheVariants as bank_reply
 use Rattle.chv_defs_memory.specs.declared.bank.Refusal.{Refusal}
 use Rattle.chv_defs_memory.specs.BankBook.{with_entry}
-use Rattle.chv_defs_memory.specs.BankState.{banks, is_frozen, later, latest, most_blocks, says_frozen}
+use Rattle.chv_defs_memory.specs.BankState.{banks, is_frozen, most_blocks}
 use Rattle.chv_defs_memory.specs.MadeCalls.{at_rest, pages_wanted, wanted_refusal, with_calls, AreMade}
 use Rattle.chv_defs_memory.specs.Zones.{first_due, most_zones, zone_refusal, IsBank, Known, OnlySeesMore}
+use Rattle.chv_defs_memory.proofs.GoingOn.{frozen-entry}
 use Rattle.chv_defs_memory.proofs.ZoneLaws.{thawed-by-thaw}
 use Rattle.chv_ctl_mem.specs.declared.plan.Plan.{Plan}
 use Rattle.chv_ctl_mem.specs.declared.plan.Plan.TheVariants as plan
@@ -37,22 +36,13 @@ within-of config checked e h = checked-within checked (let P : Option Checked �
 
 -- ---- frozen or not
 
-decides-none : (history : List BankEntry) (c : BankCall) (r : BankReply) → says_frozen c ≡ None
-    → latest (λ e. says_frozen e.call) (with_entry history 0 c r) ≡ latest (λ e. says_frozen e.call) history
-decides-none [] c r none = none
-decides-none (e ∷ history) c r none = ap (later (says_frozen e.call)) (decides-none history c r none)
-
--- behind a call that neither freezes nor thaws a bank it is as before
-pub stays-frozen : (history : List BankEntry) (c : BankCall) (r : BankReply) → says_frozen c ≡ None → is_frozen (with_entry history 0 c r) ≡ is_frozen history
-stays-frozen history c r none = rw (decides-none history c r none) refl
-
 -- behind a plan no bank is frozen
 plan-thaws : (p : Plan) (config : ZoneConfig) (bank : ℕ) (history : List BankEntry) → is_frozen history ≡ is_for_frozen p
     → is_frozen (with_calls bank history (plan_calls p config)) ≡ false
-plan-thaws plan.Shape config bank history frozen = stays-frozen history (call.Shape (blocks_in config.size)) bank_reply.Done refl ∙ frozen
-plan-thaws plan.Wipe config bank history frozen = stays-frozen history call.Wipe bank_reply.Done refl ∙ frozen
+plan-thaws plan.Shape config bank history frozen = frozen-entry history (call.Shape (blocks_in config.size)) bank_reply.Done ∙ frozen
+plan-thaws plan.Wipe config bank history frozen = frozen-entry history call.Wipe bank_reply.Done ∙ frozen
 plan-thaws plan.ThawAndWipe config bank history frozen =
-    stays-frozen (with_entry history 0 call.Thaw bank_reply.Done) call.Wipe bank_reply.Done refl ∙ thawed-by-thaw history bank_reply.Done
+    frozen-entry (with_entry history 0 call.Thaw bank_reply.Done) call.Wipe bank_reply.Done ∙ thawed-by-thaw history bank_reply.Done
 
 -- ---- when a plan may be made
 
