@@ -1,9 +1,11 @@
 -- One instruction of a vCPU, as a step of its saved state: what it asks of the world, and what the state is once the world
 -- has answered. The instructions are this project's own. A register holds a number of 64 bits, and arithmetic wraps around.
 use Rattle.std.specs.Prelude.{◌≡◌, ℕ, ◌+◌, ◌-◌, ◌%◌, ◌^◌, ◌<◌, ◌≤◌, ◌==◌, Bool, true, false, nat_lt, not, if◌then◌else◌, List, length, slice_get, slice_index, slice_set, position, unwrap_or, bit_and, bit_or, bit_xor, Option, None, Some, ⊤}
+use Rattle.std.specs.List.{list_all}
 use Rattle.std.specs.Str.{bytes_eq}
 use Rattle.chv_defs_base.specs.Numbers.{le_bytes, le_number}
 use Rattle.chv_defs_api.specs.declared.context.CpuNote.{CpuNote}
+use Rattle.chv_defs_scene.specs.ScriptReading.{is_register, is_instruction}
 use Rattle.chv_defs_scene.specs.declared.scene.Line.{Line}
 use Rattle.chv_defs_scene.specs.declared.scene.Line.TheVariants as line
 use Rattle.chv_defs_scene.specs.declared.scene.MathOp.{MathOp}
@@ -103,8 +105,8 @@ step_of script cpu = step_at script (slice_get script cpu.pos) cpu
 abbrev pub flagged : ℕ → CpuNote → CpuNote
 flagged fault cpu = moved (with_register flag fault cpu)
 
--- The state once the world has answered what was asked. An access that faulted changes nothing but the flag. (No other answer is
--- given to what is asked: see `Fits`.)
+-- The state once the world has answered what was asked. An access that faulted changes nothing but the flag. (`Fits` says which
+-- answers there can be; another one would leave the vCPU as it is, so that it asks again.)
 abbrev pub settled : CpuNote → Want → Got → CpuNote
 settled cpu (want.Load addr width reg) (got.Value value) = flagged 0 (with_register reg value cpu)
 settled cpu (want.Load addr width reg) got.Fault = flagged 1 cpu
@@ -135,8 +137,28 @@ is_asking want.Nothing = false
 is_asking want.Halted = false
 is_asking _ = true
 
+-- ---- who can go on
+
+-- A script whose lines are instructions, and which has fewer lines than a position can tell apart.
+pub record CanBeRun (script : List Line) : Type 0 where
+  pub instructions : list_all is_instruction script ≡ true
+  pub short : length script < 2 ^ 32
+
 -- A vCPU that has not halted, has fuel, and stands at a line of its script or behind the last one.
 pub record CanStep (script : List Line) (cpu : CpuNote) : Type 0 where
   pub runs : cpu.halted ≡ false
   pub fuel : 0 < cpu.fuel
   pub place : cpu.pos ≤ length script
+
+-- whether a value that is asked for goes to a register that there is
+abbrev pub goes_to_register : Want → Bool
+goes_to_register (want.Load addr width reg) = is_register reg
+goes_to_register (want.In width port reg) = is_register reg
+goes_to_register _ = true
+
+-- A vCPU that waits for what it asked: it has fuel, a further line's number, and a register for what it gets.
+pub record CanSettle (asked : Want) (cpu : CpuNote) : Type 0 where
+  pub asks : is_asking asked ≡ true
+  pub register : goes_to_register asked ≡ true
+  pub fuel : 0 < cpu.fuel
+  pub place : cpu.pos + 1 < 2 ^ 32
