@@ -1,22 +1,12 @@
 -- Lemmas for the laws of runs.
 use Rattle.std.proofs.Common.{◌≡◌, ◌<◌, ◌+◌, ◌^◌, ℕ, zero, suc, Bool, List, Option, None, Some, true, false, length, slice_get, refl, sym, ap, ◌∙◌, arith, rules}
-use Rattle.std.specs.List.{list_all}
-use Rattle.std.proofs.lemmas.Option.{slice_get_within, get_or_from_slice_get}
-use Rattle.std.proofs.lemmas.List.Folds.{list_all_at}
+use Rattle.std.proofs.lemmas.Option.{slice_get_within}
 use Rattle.chv_defs_api.specs.declared.context.CpuNote.{CpuNote}
 use Rattle.chv_defs_scene.specs.ScriptReading.{is_instruction}
 use Rattle.chv_defs_scene.specs.declared.scene.Line.{Line}
+use Rattle.chv_defs_guest.proofs.ScriptLemmas.{line_is_instruction}
 use Rattle.chv_defs_guest.specs.Instruction.{CanBeRun, CanSettle, CanStep, goes_to_register, instruction, is_asking, step_at, step_of}
 use Rattle.chv_defs_guest.specs.Runs.{AskedCanSettle, Executes, Runs}
-
--- each line of a script of instructions is one
-pub line_is_instruction : (script : List Line) (n : ℕ) (l : Line) → list_all is_instruction script ≡ true → slice_get script n ≡ Some l → is_instruction l ≡ true
-line_is_instruction script n l all e = by (is_instruction l) refl where
-  by : (b : Bool) → is_instruction l ≡ b → b ≡ true
-  by true test = refl
-  by false test =
-      let here = ap is_instruction (get_or_from_slice_get script n l l e) ∙ test in
-      sym (list_all_at is_instruction script n l (slice_get_within script n l e) here) ∙ all
 
 pub executes_costs : (script : List Line) (cpu next : CpuNote) → Executes script cpu next → next.fuel + 1 ≡ cpu.fuel
 executes_costs script cpu next e = search rules
