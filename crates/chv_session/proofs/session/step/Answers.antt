@@ -44,8 +44,10 @@ returns-in_err-response-clause-err_closes g c =
 
 pub returns-in_err-then-clause-err_closes : goal.returns-in_err-then-clause-err_closes
 returns-in_err-then-clause-err_closes g c =
-    on_err _ _ (inl (c.send.ensures.leaves.closed_stays ∙ c.fill.ensures.leaves.closed_stays,
-    c.in_err-then.ensures.err_written ∙ c.fill.ensures.leaves.put_stays))
+    on_err _ _ (inl (
+      c.send.ensures.leaves.closed_stays ∙ c.fill.ensures.leaves.closed_stays,
+      c.in_err-then.ensures.err_written ∙ c.fill.ensures.leaves.put_stays,
+    ))
 
 pub returns-in_err-stands-clause-err_closes : goal.returns-in_err-stands-clause-err_closes
 returns-in_err-stands-clause-err_closes g c =
