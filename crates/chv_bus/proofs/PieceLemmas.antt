@@ -74,16 +74,20 @@ second-of : (a b : Bool) → (a && b) ≡ true → b ≡ true
 second-of true b e = e
 second-of false b e = cc
 
+first-of-four : (a b c d : Bool) → (a && b && c && d) ≡ true → a ≡ true
+first-of-four true b c d e = refl
+first-of-four false b c d e = cc
+
 asked : (script : List Line) (l : Line) (cpu : CpuNote) → is_instruction l ≡ true → IsAsked (instruction script l cpu).1
 asked script (line.At name) cpu good = tt
 asked script (line.Set rd value) cpu good = tt
 asked script (line.Mov rd ra) cpu good = tt
 asked script (line.Math o rd ra rb) cpu good = tt
-asked script (line.Ld width rd ra offset) cpu good = first-of (is_width width) (is_register rd && is_register ra && nat_lt offset (2 ^ 64)) good
-asked script (line.St width rs ra offset) cpu good = stored width (register cpu rs) (first-of (is_width width) (is_register rs && is_register ra && nat_lt offset (2 ^ 64)) good)
-asked script (line.Put ra bytes) cpu good = first-of (is_put bytes) (list_all (λ b. nat_lt b 256) bytes) (second-of (is_register ra) (is_put bytes && list_all (λ b. nat_lt b 256) bytes) good)
-asked script (line.In width rd port) cpu good = port-width width (first-of (is_port_width width) (is_register rd && is_port port) good)
-asked script (line.Out width rs port) cpu good = (port-width width (first-of (is_port_width width) (is_register rs && is_port port) good), lowest-below width (register cpu rs))
+asked script (line.Ld width rd ra offset) cpu good = first-of-four (is_width width) (is_register rd) (is_register ra) (nat_lt offset (2 ^ 64)) good
+asked script (line.St width rs ra offset) cpu good = stored width (register cpu rs) (first-of-four (is_width width) (is_register rs) (is_register ra) (nat_lt offset (2 ^ 64)) good)
+asked script (line.Put ra bytes) cpu good = second-of (is_register ra) (is_put bytes) (first-of (is_register ra && is_put bytes) (list_all (λ b. nat_lt b 256) bytes) good)
+asked script (line.In width rd port) cpu good = port-width width (first-of (is_port_width width) (is_register rd) (first-of (is_port_width width && is_register rd) (is_port port) good))
+asked script (line.Out width rs port) cpu good = (port-width width (first-of (is_port_width width) (is_register rs) (first-of (is_port_width width && is_register rs) (is_port port) good)), lowest-below width (register cpu rs))
 asked script (line.Jmp to) cpu good = tt
 asked script (line.Jz ra to) cpu good = tt
 asked script (line.Jnz ra to) cpu good = tt
@@ -92,8 +96,12 @@ asked script line.Halt cpu good = tt
 
 -- ---- what is made of it
 
+some-values : (width : ℕ) → 0 < 256 ^ width
+some-values zero = omega arith
+some-values (suc width) = omega (arith, some-values width, pow-succ' 256 width)
+
 ones-fit : (width : ℕ) → 256 ^ width - 1 < 256 ^ width
-ones-fit width = search rules
+ones-fit width = omega (arith, some-values width)
 
 load-made : (addr width reg : ℕ) (at : Place) → is_width width ≡ true → IsInLimits width at → CanBeMade (want.Load addr width reg) (piece_of (want.Load addr width reg) (load_route at addr width))
 load-made addr width reg (place.Ram zone block offset) good within = search rules
@@ -103,7 +111,8 @@ load-made addr width reg place.Crosses good within = tt
 
 window-made : (addr : ℕ) (bytes : List ℕ) → is_width (length bytes) ≡ true → AreBytes bytes → CanBeMade (want.Store addr bytes false) (piece_of (want.Store addr bytes false) (window_route addr (length bytes) (le_field bytes 0 (length bytes))))
 window-made addr bytes good are =
-    let whole : le_field bytes 0 (length bytes) ≡ Some (le_number bytes) = ? in
+    let fits : (is_width (length bytes) && nat_le (0 + length bytes) (length bytes)) ≡ true = grind (arith, nat_tests) in
+    let whole : le_field bytes 0 (length bytes) ≡ Some (le_number bytes) = rw fits (ap (λ bs. Some (le_number bs)) (take_all (length bytes) bytes (omega arith))) in
     rw whole (good, le_number-below bytes are)
 
 store-made : (addr : ℕ) (bytes : List ℕ) (at : Place) → is_width (length bytes) ≡ true → AreBytes bytes → IsInLimits (length bytes) at → CanBeMade (want.Store addr bytes false) (piece_of (want.Store addr bytes false) (store_route at addr bytes))
@@ -124,8 +133,8 @@ made zones (want.Store addr bytes false) within good asks = store-made addr byte
 made zones (want.Store addr bytes true) within good asks = put-made addr bytes (place_of (map_of zones) addr (length bytes)) good (place-in_limits zones addr (length bytes) within)
 made zones (want.In width port reg) within good asks = good
 made zones (want.Out width port value) within good asks = good
-made zones want.Nothing within good asks = absurd (grind asks)
-made zones want.Halted within good asks = absurd (grind asks)
+made zones want.Nothing within good asks = cc
+made zones want.Halted within good asks = cc
 
 -- ---- the next instruction
 

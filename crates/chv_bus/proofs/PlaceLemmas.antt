@@ -42,8 +42,8 @@ boot-of_zone zone before (config ∷ configs) few small =
     let second : IsOfZone (record { zone = zone; first = low; count = count - low; addr = past_hole ((before + low) * block_bytes) }) = (omega arith, omega arith) in
     let further = boot-of_zone (zone + 1) (before + count) configs (omega arith) (All-tail (λ config. config.size + config.hotplug ≤ 64 * 2 ^ 30) config configs small) in
     with_run-all (record { zone = zone; first = 0; count = low; addr = before * block_bytes })
-        (with_run (record { zone = zone; first = low; count = count - low; addr = past_hole ((before + low) * block_bytes) }) (boot_runs (zone + 1) (before + count) configs)) first
-        (with_run-all (record { zone = zone; first = low; count = count - low; addr = past_hole ((before + low) * block_bytes) }) (boot_runs (zone + 1) (before + count) configs) second further)
+    (with_run (record { zone = zone; first = low; count = count - low; addr = past_hole ((before + low) * block_bytes) }) (boot_runs (zone + 1) (before + count) configs)) first
+    (with_run-all (record { zone = zone; first = low; count = count - low; addr = past_hole ((before + low) * block_bytes) }) (boot_runs (zone + 1) (before + count) configs) second further)
 
 plug-of_zone : (zone before : ℕ) (configs : List ZoneConfig) → zone + length configs ≤ most_zones → AreSmall configs → All IsOfZone (plug_runs zone before configs)
 plug-of_zone zone before [] few small = λ k d h. absurd (omega arith)

@@ -1,5 +1,5 @@
 -- Instructions one after another, and the laws above the definition of one.
-use Rattle.std.specs.Prelude.{◌≡◌, ◌⊎◌, ◌==◌, ◌||◌, ℕ, zero, suc, ◌+◌, Bool, true, false, List, slice_get, Option, Some}
+use Rattle.std.specs.Prelude.{◌≡◌, ◌⊎◌, ◌==◌, ◌||◌, ℕ, zero, suc, ◌+◌, ◌≤◌, Bool, true, false, List, length, slice_get, Option, Some}
 use Rattle.chv_defs_api.specs.declared.context.CpuNote.{CpuNote}
 use Rattle.chv_defs_scene.specs.declared.scene.Line.{Line}
 use Rattle.chv_defs_scene.specs.declared.scene.Line.TheVariants as line
@@ -13,7 +13,7 @@ abbrev pub Executes : List Line → CpuNote → CpuNote → Type 0
 Executes script cpu next =
     CanStep script cpu
     × (((step_of script cpu).1 ≡ want.Nothing × next ≡ (step_of script cpu).0)
-      ⊎ ((got : Got) × Fits (step_of script cpu).1 got × next ≡ settled (step_of script cpu).0 (step_of script cpu).1 got))
+    ⊎ ((got : Got) × Fits (step_of script cpu).1 got × next ≡ settled (step_of script cpu).0 (step_of script cpu).1 got))
 
 -- So many instructions are executed, one after another.
 abbrev pub Runs : List Line → ℕ → CpuNote → CpuNote → Type 0
@@ -54,3 +54,7 @@ abbrev pub OthersStay : Type 0
 OthersStay =
     (script : List Line) (l : Line) (cpu next : CpuNote) (r : ℕ) → slice_get script cpu.pos ≡ Some l → Executes script cpu next
     → writes l r ≡ false → register next r ≡ register cpu r
+
+-- The law of the position: an instruction leaves the vCPU at a line of its script, or behind the last one.
+abbrev pub StaysInScript : Type 0
+StaysInScript = (script : List Line) (cpu next : CpuNote) → Executes script cpu next → next.pos ≤ length script

@@ -1,5 +1,5 @@
 // The laws of the definition of one instruction, as contracts of functions that do nothing.
-ghost use Rattle.chv_defs_guest.specs.Runs.{AskedCanSettle, CutIsAskedAgain, EachCostsOne, OthersStay};
+ghost use Rattle.chv_defs_guest.specs.Runs.{AskedCanSettle, CutIsAskedAgain, EachCostsOne, OthersStay, StaysInScript};
 
 /// An instruction that asks for something leaves the vCPU as it was until it is settled. So where no answer comes it is asked
 /// again, the same, at no cost.
@@ -20,4 +20,9 @@ pub fn asked_can_settle()
 /// An instruction leaves all registers but the one that it names first, and the flag of an access to memory.
 pub fn other_registers_stay()
     ensures { OthersStay }
+{}
+
+/// An instruction leaves the vCPU at a line of its script, or behind the last one.
+pub fn stays_in_script()
+    ensures { StaysInScript }
 {}
