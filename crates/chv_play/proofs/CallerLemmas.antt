@@ -137,8 +137,7 @@ numbered_without_gap : (low : ℕ) (sessions : List SessionTrace) → 1 ≤ low 
 numbered_without_gap low [] above few is = tt
 numbered_without_gap low (s ∷ ss) above few is =
     let first : s.session ≡ low = ap (λ (ns : List ℕ). get_or ns 0 0) is in
-    let rest : numbers_of ss ≡ range_with_len (low + 1) (length ss) = ap (drop 1) is in
-    (
+    let rest : numbers_of ss ≡ range_with_len (low + 1) (length ss) = ap (drop 1) is in (
       (omega (arith, above, first), omega (arith, few, first)),
       numbers_above (low + 1) s ss (omega (arith, first)) rest,
       numbered_without_gap (low + 1) ss (omega (arith, above)) (omega (arith, few)) rest,
@@ -156,12 +155,11 @@ number_is_there count number low high =
 calls_of_one : (sessions : List SessionTrace) (history : List ControlEntry) → AreNumberedFromOne sessions
     → AllByRecursion (IsCallBelow (length sessions)) history → AreCallsOf sessions history
 calls_of_one sessions [] is each = tt
-calls_of_one sessions (entry ∷ history) is each =
-    (
-      subst (λ (ns : List ℕ). Contains ns entry.caller) (sym is)
-          (number_is_there (length sessions) entry.caller each.0.0 each.0.1),
-      calls_of_one sessions history is each.1,
-    )
+calls_of_one sessions (entry ∷ history) is each = (
+  subst (λ (ns : List ℕ). Contains ns entry.caller) (sym is)
+      (number_is_there (length sessions) entry.caller each.0.0 each.0.1),
+  calls_of_one sessions history is each.1,
+)
 
 -- What a trace that is due says of its sessions and callers.
 pub record IsOfSessions (sessions : ℕ) (trace : Trace) : Type 0 where
