@@ -1,3 +1,6 @@
+pub mod Apart
+pub mod Bytes
+pub mod InOrder
 pub mod Limits
 pub mod MapLaws
 pub mod RunSearch
