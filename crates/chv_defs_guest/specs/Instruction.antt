@@ -1,6 +1,6 @@
 -- One instruction of a vCPU, as a step of its saved state: what it asks of the world, and what the state is once the world
 -- has answered. The instructions are this project's own. A register holds a number of 64 bits, and arithmetic wraps around.
-use Rattle.std.specs.Prelude.{◌≡◌, ℕ, ◌+◌, ◌-◌, ◌%◌, ◌^◌, ◌<◌, ◌≤◌, ◌==◌, Bool, true, false, nat_lt, not, if◌then◌else◌, List, length, slice_get, slice_index, slice_set, position, unwrap_or, bit_and, bit_or, bit_xor, Option, None, Some, ⊤}
+use Rattle.std.specs.Prelude.{◌≡◌, ℕ, ◌+◌, ◌-◌, ◌%◌, ◌^◌, ◌<◌, ◌==◌, Bool, true, false, nat_lt, not, if◌then◌else◌, List, length, slice_get, slice_index, slice_set, position, unwrap_or, bit_and, bit_or, bit_xor, Option, None, Some, ⊤}
 use Rattle.std.specs.List.{list_all}
 use Rattle.std.specs.Str.{bytes_eq}
 use Rattle.chv_defs_base.specs.Numbers.{le_bytes, le_number}
@@ -60,7 +60,7 @@ abbrev pub is_label : List ℕ → Line → Bool
 is_label name (line.At own) = bytes_eq own name
 is_label name l = false
 
--- the place of a label's line in a script, counted from 0 (a script has each label to which it jumps)
+-- the place of a label's line in a script, counted from 0 (the reader of scripts takes no jump to a label that is not there)
 abbrev pub label_place : List Line → List ℕ → ℕ
 label_place script name = unwrap_or (position (is_label name) script) 0
 
@@ -72,7 +72,7 @@ jumped_if false script to cpu = moved cpu
 -- ---- one instruction
 
 -- The state behind an instruction that asks for nothing, and that it asks for nothing; or what it asks for, in the state before
--- it, in which it stands until it has the answer.
+-- it, in which it stands until it has the answer. (`halt` is an instruction like the others, which asks for nothing.)
 abbrev pub instruction : List Line → Line → CpuNote → CpuNote × Want
 instruction script (line.At name) cpu = (moved cpu, want.Nothing)
 instruction script (line.Set rd value) cpu = (moved (with_register rd value cpu), want.Nothing)
@@ -139,16 +139,16 @@ is_asking _ = true
 
 -- ---- who can go on
 
--- A script whose lines are instructions, and which has fewer lines than a position can tell apart.
+-- A script whose lines are instructions, and which has fewer lines than a position can tell apart. (The reader of scenarios takes
+-- at most 4,096.)
 pub record CanBeRun (script : List Line) : Type 0 where
   pub instructions : list_all is_instruction script ≡ true
   pub short : length script < 2 ^ 32
 
--- A vCPU that has not halted, has fuel, and stands at a line of its script or behind the last one.
-pub record CanStep (script : List Line) (cpu : CpuNote) : Type 0 where
+-- A vCPU that has not halted and has fuel. (It may stand behind the last line of its script, however far: then it halts.)
+pub record CanStep (cpu : CpuNote) : Type 0 where
   pub runs : cpu.halted ≡ false
   pub fuel : 0 < cpu.fuel
-  pub place : cpu.pos ≤ length script
 
 -- whether a value that is asked for goes to a register that there is
 abbrev pub goes_to_register : Want → Bool

@@ -31,6 +31,6 @@ CanBeMade asked (Known answer) = Fits asked answer
 -- The law of pieces: what a vCPU's next instruction asks for can be made, whatever the zones in effect are.
 abbrev pub PiecesCanBeMade : Type 0
 PiecesCanBeMade =
-    (zones : List ZoneConfig) (script : List Line) (cpu : CpuNote) → is_within_limits zones ≡ true → CanBeRun script → CanStep script cpu
+    (zones : List ZoneConfig) (script : List Line) (cpu : CpuNote) → is_within_limits zones ≡ true → CanBeRun script → CanStep cpu
     → is_asking (step_of script cpu).1 ≡ true
     → CanBeMade (step_of script cpu).1 (piece_of (step_of script cpu).1 (route_of (map_of zones) (step_of script cpu).1))

@@ -61,7 +61,7 @@ pub data Piece : Type 0 where
   InControl : (made : RegAccess) → Piece
   Known : (answer : Got) → Piece
 
--- the call in the bank of a block: a Read for a load, a Write for a store
+-- the call in the bank of a block: a Read for a load, a Write for a store (no other want goes to memory)
 abbrev pub bank_call_of : Want → ℕ → ℕ → BankCall
 bank_call_of (want.Store addr bytes put) block offset = call.Write block offset bytes
 bank_call_of (want.Load addr width reg) block offset = call.Read block offset width

@@ -8,10 +8,11 @@ use Rattle.chv_defs_guest.specs.declared.want.Want.TheVariants as want
 use Rattle.chv_defs_guest.specs.declared.want.Got.{Got}
 use Rattle.chv_defs_guest.specs.Instruction.{register, flag, step_of, settled, is_asking, CanBeRun, CanStep, CanSettle, Fits}
 
--- One instruction is executed, from a state to the next: it asks for nothing, or is settled with an answer that fits.
+-- One instruction is executed, from a state to the next: it asks for nothing, or is settled with an answer that fits. (Which of
+-- those answers it gets is the world's to say: see `Routing`. To halt behind the last line is to execute none.)
 abbrev pub Executes : List Line → CpuNote → CpuNote → Type 0
 Executes script cpu next =
-    CanStep script cpu
+    CanStep cpu
     × (((step_of script cpu).1 ≡ want.Nothing × next ≡ (step_of script cpu).0)
     ⊎ ((got : Got) × Fits (step_of script cpu).1 got × next ≡ settled (step_of script cpu).0 (step_of script cpu).1 got))
 
@@ -35,7 +36,7 @@ EachCostsOne =
 -- The law of what is asked: it can be settled in the state in which it was asked.
 abbrev pub AskedCanSettle : Type 0
 AskedCanSettle =
-    (script : List Line) (cpu : CpuNote) → CanBeRun script → CanStep script cpu → is_asking (step_of script cpu).1 ≡ true
+    (script : List Line) (cpu : CpuNote) → CanBeRun script → CanStep cpu → is_asking (step_of script cpu).1 ≡ true
     → CanSettle (step_of script cpu).1 (step_of script cpu).0
 
 -- whether an instruction may write a register

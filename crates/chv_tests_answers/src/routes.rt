@@ -38,7 +38,7 @@ fn went(
 ) -> Result<String, AllocError>
     requires { CanBeRun script.now.lines }
 {
-    if !can_step(cpu, script) {
+    if !can_step(cpu) {
         return String::from_str(alloc, "cannot step");
     }
     let want = step(alloc, cpu, script)?;

@@ -42,7 +42,7 @@ fn went(
 ) -> Result<String, AllocError>
     requires { CanBeRun script.now.lines }
 {
-    if !can_step(cpu, script) {
+    if !can_step(cpu) {
         return String::from_str(alloc, "cannot step");
     }
     let want = step(alloc, cpu, script)?;
@@ -54,11 +54,11 @@ fn went(
     with_state(shown?, cpu)
 }
 
-/// Whether a vCPU can take a step of a script.
-pub fn can_step(cpu: &CpuNote, script: &Script) -> bool
-    ensures { result ≡ true → CanStep script.now.lines cpu.now }
+/// Whether a vCPU can take a step.
+pub fn can_step(cpu: &CpuNote) -> bool
+    ensures { result ≡ true → CanStep cpu.now }
 {
-    !cpu.halted && cpu.fuel > 0 && cpu.pos as usize <= script.lines.len()
+    !cpu.halted && cpu.fuel > 0
 }
 
 // Gives a vCPU what it asked for, where it asked.

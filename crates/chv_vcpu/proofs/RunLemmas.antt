@@ -31,7 +31,7 @@ asking : (script : List Line) (l : Line) (cpu : CpuNote) → is_instruction l �
     → ((instruction script l cpu).0 ≡ cpu) × (goes_to_register (instruction script l cpu).1 ≡ true)
 asking script l cpu good asks = search rules
 
-asked_at : (script : List Line) (cpu : CpuNote) → CanBeRun script → CanStep script cpu → (o : Option Line) → slice_get script cpu.pos ≡ o
+asked_at : (script : List Line) (cpu : CpuNote) → CanBeRun script → CanStep cpu → (o : Option Line) → slice_get script cpu.pos ≡ o
     → is_asking (step_at script o cpu).1 ≡ true → CanSettle (step_at script o cpu).1 (step_at script o cpu).0
 asked_at script cpu run can None e asks = search rules
 asked_at script cpu run can (Some l) e asks =

@@ -18,7 +18,7 @@ use std::alloc::{AllocError, Global};
 /// alone, and where there is none the vCPU stays as it was. A jump takes time that grows with the number of the lines before
 /// its label.
 pub fn step(alloc: Global, cpu: &mut CpuNote, script: &Script) -> Result<Want, AllocError>
-    requires can { CanStep script.now.lines cpu.old }
+    requires can { CanStep cpu.old }
     requires script { CanBeRun script.now.lines }
     ensures state { OnOk result (cpu.new ≡ (step_of script.now.lines cpu.old).0) }
     ensures wanted { IfOk result (λ asked. asked ≡ (step_of script.now.lines cpu.old).1) }
