@@ -1,9 +1,8 @@
 -- What an instruction asks for can be made.
-use Rattle.std.proofs.Common.{◌≡◌, ℕ, zero, suc, ◌+◌, ◌-◌, ◌*◌, ◌/◌, ◌%◌, ◌<◌, ◌≤◌, ◌^◌, Bool, true, false, List, [], ◌∷◌, Option, None, Some, length, take, drop, slice_get, refl, sym, ◌∙◌, ap, subst, arith, rules}
+use Rattle.std.proofs.Common.{◌≡◌, ℕ, zero, suc, ◌+◌, ◌-◌, ◌/◌, ◌<◌, ◌≤◌, ◌^◌, Bool, true, false, List, [], ◌∷◌, Option, None, Some, length, slice_get, refl, sym, ap, subst, arith, rules}
 use Rattle.std.specs.Prelude.{◌&&◌, nat_le, nat_lt}
 use Rattle.std.specs.List.{list_all}
 use Rattle.std.proofs.Math.Nat.{pow-succ'}
-use Rattle.std.proofs.lemmas.Bool.{and_parts}
 use Rattle.std.proofs.lemmas.Bool.Decides.{nat_tests}
 use Rattle.std.proofs.lemmas.List.{take_all}
 use Rattle.chv_defs_base.specs.Numbers.{is_width, le_bytes, le_field, le_number}
@@ -18,7 +17,7 @@ use Rattle.chv_addr.specs.AddressMap.{is_within_limits, map_of, place_of}
 use Rattle.chv_defs_guest.proofs.ScriptLemmas.{line_is_instruction}
 use Rattle.chv_defs_guest.specs.declared.want.Want.{Want}
 use Rattle.chv_defs_guest.specs.declared.want.Want.TheVariants as want
-use Rattle.chv_defs_guest.specs.Instruction.{CanBeRun, CanStep, instruction, is_asking, lowest, register, step_at, step_of}
+use Rattle.chv_defs_guest.specs.Instruction.{CanBeRun, instruction, is_asking, lowest, register, step_at, step_of}
 use Rattle.chv_defs_guest.specs.Pieces.{CanBeMade, PiecesCanBeMade}
 use Rattle.chv_defs_guest.specs.Routing.{load_route, piece_of, put_route, route_of, store_route, window_route}
 use Rattle.chv_bus.proofs.PlaceLemmas.{IsInLimits, place-in_limits}

@@ -1,6 +1,6 @@
 -- One instruction of a vCPU, as a step of its saved state: what it asks of the world, and what the state is once the world
 -- has answered. The instructions are this project's own. A register holds a number of 64 bits, and arithmetic wraps around.
-use Rattle.std.specs.Prelude.{◌≡◌, ℕ, ◌+◌, ◌-◌, ◌%◌, ◌^◌, ◌<◌, ◌==◌, Bool, true, false, nat_lt, not, if◌then◌else◌, List, length, slice_get, slice_index, slice_set, position, unwrap_or, bit_and, bit_or, bit_xor, Option, None, Some, ⊤}
+use Rattle.std.specs.Prelude.{◌≡◌, ℕ, ◌+◌, ◌-◌, ◌%◌, ◌^◌, ◌<◌, ◌==◌, Bool, true, false, nat_lt, not, List, length, slice_get, slice_index, slice_set, position, unwrap_or, bit_and, bit_or, bit_xor, Option, None, Some, ⊤}
 use Rattle.std.specs.List.{list_all}
 use Rattle.std.specs.Str.{bytes_eq}
 use Rattle.chv_defs_base.specs.Numbers.{le_bytes, le_number}

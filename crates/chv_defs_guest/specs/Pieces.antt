@@ -1,5 +1,5 @@
 -- The law above the piece that an instruction is: it can be made.
-use Rattle.std.specs.Prelude.{◌≡◌, ◌<◌, ℕ, ◌^◌, true, false, List}
+use Rattle.std.specs.Prelude.{◌≡◌, true, false, List}
 use Rattle.chv_defs_base.specs.Numbers.{is_width}
 use Rattle.chv_defs_api.specs.declared.config.ZoneConfig.{ZoneConfig}
 use Rattle.chv_defs_api.specs.declared.context.CpuNote.{CpuNote}

@@ -1,7 +1,7 @@
 -- Where an access of an instruction goes, by the place of all of its bytes; and the piece of a slice that one instruction is: at
 -- most one entry, in one bank or in the control book. Windows of devices and ports are the control machine's.
-use Rattle.std.specs.Prelude.{ℕ, ◌%◌, ◌-◌, ◌^◌, Bool, true, false, List, length, Option, None, Some}
-use Rattle.chv_defs_base.specs.Numbers.{le_field, le_number}
+use Rattle.std.specs.Prelude.{ℕ, ◌%◌, ◌-◌, ◌^◌, true, false, List, length, Option, None, Some}
+use Rattle.chv_defs_base.specs.Numbers.{le_field}
 use Rattle.chv_defs_api.specs.declared.register.RegAccess.{RegAccess}
 use Rattle.chv_defs_api.specs.declared.register.RegAccess.TheVariants as access
 use Rattle.chv_defs_memory.specs.declared.bank.BankCall.{BankCall}

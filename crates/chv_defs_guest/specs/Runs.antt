@@ -1,9 +1,8 @@
 -- Instructions one after another, and the laws above the definition of one.
-use Rattle.std.specs.Prelude.{◌≡◌, ◌⊎◌, ◌==◌, ◌||◌, ℕ, zero, suc, ◌+◌, ◌≤◌, Bool, true, false, List, length, slice_get, Option, Some}
+use Rattle.std.specs.Prelude.{◌≡◌, ◌⊎◌, ◌==◌, ◌||◌, ℕ, zero, suc, ◌+◌, ◌≤◌, Bool, true, false, List, length, slice_get, Some}
 use Rattle.chv_defs_api.specs.declared.context.CpuNote.{CpuNote}
 use Rattle.chv_defs_scene.specs.declared.scene.Line.{Line}
 use Rattle.chv_defs_scene.specs.declared.scene.Line.TheVariants as line
-use Rattle.chv_defs_guest.specs.declared.want.Want.{Want}
 use Rattle.chv_defs_guest.specs.declared.want.Want.TheVariants as want
 use Rattle.chv_defs_guest.specs.declared.want.Got.{Got}
 use Rattle.chv_defs_guest.specs.Instruction.{register, flag, step_of, settled, is_asking, CanBeRun, CanStep, CanSettle, Fits}

@@ -1,6 +1,6 @@
 -- Lemmas for the laws of runs.
 use Rattle.std.specs.Prelude.{◌==◌, ◌⊎◌, not, nat_lt}
-use Rattle.std.proofs.Common.{◌≤◌, inl, inr, subst, ◌≡◌, ◌<◌, ◌+◌, ◌^◌, ℕ, zero, suc, Bool, List, Option, None, Some, true, false, length, slice_get, refl, sym, ap, ◌∙◌, arith, rules}
+use Rattle.std.proofs.Common.{◌≤◌, inl, inr, subst, ◌≡◌, ◌<◌, ◌+◌, ℕ, zero, suc, Bool, List, Option, None, Some, true, false, length, slice_get, refl, sym, arith, rules}
 use Rattle.std.proofs.lemmas.Option.{slice_get_within}
 use Rattle.chv_defs_api.specs.declared.context.CpuNote.{CpuNote}
 use Rattle.chv_defs_scene.specs.ScriptReading.{is_instruction}
@@ -11,7 +11,7 @@ use Rattle.chv_defs_guest.specs.declared.want.Want.TheVariants as want
 use Rattle.chv_defs_guest.specs.declared.want.Got.{Got}
 use Rattle.chv_defs_guest.specs.declared.want.Got.TheVariants as got
 use Rattle.chv_defs_guest.proofs.ScriptLemmas.{line_is_instruction}
-use Rattle.chv_defs_guest.specs.Instruction.{CanBeRun, CanSettle, CanStep, Fits, goes_to_register, instruction, is_asking, jumped_if, register, settled, step_at, step_of}
+use Rattle.chv_defs_guest.specs.Instruction.{CanBeRun, CanSettle, CanStep, Fits, goes_to_register, instruction, is_asking, jumped_if, register, settled, step_at}
 use Rattle.chv_defs_guest.specs.Runs.{AskedCanSettle, Executes, Runs, StaysInScript}
 use Rattle.chv_vcpu.proofs.LabelLemmas.{label_place-within}
 

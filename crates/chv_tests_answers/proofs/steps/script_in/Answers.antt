@@ -1,4 +1,4 @@
-use Rattle.std.proofs.Common.{◌≡◌, sym, ◌∙◌, rules}
+use Rattle.std.proofs.Common.{◌≡◌, rules}
 use Rattle.std.specs.Prelude.{Ok}
 use Rattle.chv_defs_scene.specs.ScriptReading.{read_script}
 use Rattle.chv_script.specs.Reads.{answer_of}

@@ -1,4 +1,3 @@
-use Rattle.std.proofs.Common.{rules}
 use Rattle.chv_vcpu.proofs.answer.settle.Goals as goal
 
 pub returns-in-Load : goal.returns-in-Load
