@@ -4,10 +4,13 @@
 mod fields;
 mod laws;
 mod lines;
+mod meaning;
 mod outside;
 mod reading;
 mod scenario;
+mod script;
 mod section;
+mod steps;
 
 pub use laws::reads_exactly_the_scenarios;
 pub use scenario::{SceneFault, read};
