@@ -237,17 +237,22 @@ order_rest b text line s opened may is =
     nothing_left : (rest : Scene) → rest.vcpus ≡ [] → rest.sessions ≡ [] → rest.order ≡ None → body_text rest ≡ []
     nothing_left rest v s o = ap₂ (λ vs ss. flat_map vcpu_section vs ++ flat_map session_section ss ++ order_section rest.order) v s ∙ ap order_section o
 
+-- the text of a section before others
+pub section_text : (opened script vcpus sessions order : List ℕ) → opened ++ ((script ++ codes "end\n") ++ ((vcpus ++ sessions) ++ order)) ≡ ((((opened ++ script) ++ codes "end\n") ++ vcpus) ++ sessions) ++ order
+section_text opened script vcpus sessions order = simp append_assoc
+
 vcpu_rest : (b : Before) (lines : List Line) (line : List ℕ) (vcpu fuel : ℕ) (s t : Scene) → line ≡ opening_text (OpensVcpu vcpu fuel) → MayOpen b (OpensVcpu vcpu fuel) → IsScriptRest [] (record b { vcpus = vcpu + 1 }) lines t → with_numbers vcpu fuel t ≡ s → IsRest b (line ++ lines_text lines) s
 vcpu_rest b lines line vcpu fuel s t opened may is made =
     let rest = is.rest in
     let script = is.script in
     let early : not b.has_order ≡ true = (and_parts (b.sessions == 0) (not b.has_order) may.0).1 in
+    let short : 0 + length script ≤ most_lines = is.short in
     let grammar = read_is_script (script_lines lines) script is.read in
     subst (IsRest b (line ++ lines_text lines)) (ap (with_numbers vcpu fuel) is.is ∙ made) (record {
       spelled = ap₂ (λ x y. x ++ y) opened (is.spelled ∙ ap (λ x. flat_map instruction_line script ++ codes "end\n" ++ x) is.follows.spelled)
           ∙ section_text (opening_text (OpensVcpu vcpu fuel)) (flat_map instruction_line script) (flat_map vcpu_section rest.vcpus) (flat_map session_section rest.sessions) (order_section rest.order);
       disks = is.follows.disks;
-      vcpus = (record { vcpu = may.2; fuel = may.3; script = subst (λ ls. IsScript ls script) grammar.spelled grammar; short = is.short }, is.follows.vcpus);
+      vcpus = (record { vcpu = may.2; fuel = may.3; script = subst (λ ls. IsScript ls script) grammar.spelled grammar; short = omega (arith, short) }, is.follows.vcpus);
       ascend = (may.1, is.follows.ascend);
       early = λ e. no_both (is_early b) _ may.0 e;
       few = is.follows.few;
@@ -255,9 +260,6 @@ vcpu_rest b lines line vcpu fuel s t opened may is made =
       requests = is.follows.requests;
       order = is.follows.order;
     })
-  where
-    section_text : (opened script vcpus sessions order : List ℕ) → opened ++ ((script ++ codes "end\n") ++ ((vcpus ++ sessions) ++ order)) ≡ ((((opened ++ script) ++ codes "end\n") ++ vcpus) ++ sessions) ++ order
-    section_text opened script vcpus sessions order = simp append_assoc
 
 outside_step : (n : ℕ) (b : Before) (line : Line) (lines : List Line) (s : Scene) (rest : Place → Before → Result Scene Fault) (opens : Result Opening Reason) → b.sessions ≤ 16 → ((o : Opening) → opens ≡ Ok o → IsOpening b (with_feed line) o) → top_part n b opens rest ≡ Ok s → ((place : Place) (now : Before) (t : Scene) → Sure place now → rest place now ≡ Ok t → Known place now lines t) → IsRest b (lines_text (line ∷ lines)) s
 outside_step n b line lines s rest (Err reason) sure known e more = absurd (cc)

@@ -170,18 +170,19 @@ script_goes d old new text lines went fits =
     let l = went.lines.0 in
     let put = went.lines.2 in
     let is = line_instructed (spelled old) text true lines l (part_is old text lines fits ∙ went.lines.1) in
-    let on = spelled_on old new l text put is.is.spelled in
-    (λ n.
-      let read = read_lines (InScript (spelled old ++ text ∷ [])) (before d) (n + 1) lines in
-      script_is d old text n lines fits
-      ∙ (ap (script_line_by d old text n lines) went.lines.1
-      ∙ (of_both (λ s. with_done d (with_script_lines old s)) (with_instruction l) read
-      ∙ (of_same _ _ (λ s. ap (λ t. with_done d (with_numbers old.vcpu old.fuel t)) (all_push with_instruction old.lines l s)) read
-      ∙ (ap (λ ts. of_scene (λ s. with_done d (with_numbers old.vcpu old.fuel (with_all with_instruction (old.lines ++ l ∷ []) s))) (read_lines (InScript ts) (before d) (n + 1) lines)) (sym on)
-      ∙ (ap (λ ls. of_scene (λ s. with_done d (with_numbers old.vcpu old.fuel (with_all with_instruction ls s))) (read_lines (InScript (spelled new)) (before d) (n + 1) lines)) (sym put)
-      ∙ (ap (λ v. of_scene (λ s. with_done d (with_numbers v old.fuel (with_all with_instruction new.lines s))) (read_lines (InScript (spelled new)) (before d) (n + 1) lines)) (sym went.vcpu)
-      ∙ ap (λ f. of_scene (λ s. with_done d (with_numbers new.vcpu f (with_all with_instruction new.lines s))) (read_lines (InScript (spelled new)) (before d) (n + 1) lines)) (sym went.fuel))))))),
-    still_fits old new text lines l fits is put went.all went.labels)
+    let on = spelled_on old new l text put is.is.spelled in (
+      λ n.
+          let read = read_lines (InScript (spelled old ++ text ∷ [])) (before d) (n + 1) lines in
+          script_is d old text n lines fits
+          ∙ (ap (script_line_by d old text n lines) went.lines.1
+          ∙ (of_both (λ s. with_done d (with_script_lines old s)) (with_instruction l) read
+          ∙ (of_same _ _ (λ s. ap (λ t. with_done d (with_numbers old.vcpu old.fuel t)) (all_push with_instruction old.lines l s)) read
+          ∙ (ap (λ ts. of_scene (λ s. with_done d (with_numbers old.vcpu old.fuel (with_all with_instruction (old.lines ++ l ∷ []) s))) (read_lines (InScript ts) (before d) (n + 1) lines)) (sym on)
+          ∙ (ap (λ ls. of_scene (λ s. with_done d (with_numbers old.vcpu old.fuel (with_all with_instruction ls s))) (read_lines (InScript (spelled new)) (before d) (n + 1) lines)) (sym put)
+          ∙ (ap (λ v. of_scene (λ s. with_done d (with_numbers v old.fuel (with_all with_instruction new.lines s))) (read_lines (InScript (spelled new)) (before d) (n + 1) lines)) (sym went.vcpu)
+          ∙ ap (λ f. of_scene (λ s. with_done d (with_numbers new.vcpu f (with_all with_instruction new.lines s))) (read_lines (InScript (spelled new)) (before d) (n + 1) lines)) (sym went.fuel))))))),
+      still_fits old new text lines l fits is put went.all went.labels,
+    )
 
 pub inside_goes : (d : Done) (old new : Open) (text : List ℕ) (lines : List Line) → WentInside old new (Ok true) text → FitsOpen old (whole text ∷ lines) → ((n : ℕ) → read_from d old n (whole text ∷ lines) ≡ read_from d new (n + 1) lines) × FitsOpen new lines
 inside_goes d section_of.Outside new text lines went fits = absurd went
@@ -257,15 +258,18 @@ fresh_fits vcpu fuel s lines is = record {
 
 opens_on : (d : Done) (new : Reading) (text : List ℕ) (o : Opens) (lines : List Line) → top_word (before d) (at_space text).0 (at_space text).1 ≡ Ok (opening o) → Opened d o new lines → ((n : ℕ) → read_from d section_of.Outside n (whole text ∷ lines) ≡ resumed new (n + 1) lines) × Fits new lines
 opens_on d new text (opens.Vcpu vcpu fuel) lines e is =
-    let s = is.1.0 in
-    (λ n. opens_script d text vcpu fuel s lines e is.1.2 n lines ∙ sym (ap₂ (λ d o. read_from d o (n + 1) lines) is.0 is.1.1),
-    subst (λ o. FitsOpen o lines) (sym is.1.1) (fresh_fits vcpu fuel s lines is.1.2))
-opens_on d new text opens.Session lines e is =
-    (λ n. opens_session d text e n lines ∙ sym (ap₂ (λ d o. read_from d o (n + 1) lines) is.0 is.1),
-    subst (λ o. FitsOpen o lines) (sym is.1) tt)
-opens_on d new text opens.Order lines e is =
-    (λ n. opens_order d text e n lines ∙ sym (ap₂ (λ d o. read_from d o (n + 1) lines) is.0 is.1),
-    subst (λ o. FitsOpen o lines) (sym is.1) tt)
+    let s = is.1.0 in (
+      λ n. opens_script d text vcpu fuel s lines e is.1.2 n lines ∙ sym (ap₂ (λ d o. read_from d o (n + 1) lines) is.0 is.1.1),
+      subst (λ o. FitsOpen o lines) (sym is.1.1) (fresh_fits vcpu fuel s lines is.1.2),
+    )
+opens_on d new text opens.Session lines e is = (
+  λ n. opens_session d text e n lines ∙ sym (ap₂ (λ d o. read_from d o (n + 1) lines) is.0 is.1),
+  subst (λ o. FitsOpen o lines) (sym is.1) tt,
+)
+opens_on d new text opens.Order lines e is = (
+  λ n. opens_order d text e n lines ∙ sym (ap₂ (λ d o. read_from d o (n + 1) lines) is.0 is.1),
+  subst (λ o. FitsOpen o lines) (sym is.1) tt,
+)
 
 -- what a line means by what was passed
 by_passed : (d : Done) (p : Passed) (text : List ℕ) (found : Result Opens Reason) → before_of p ≡ before d → opening_of found ≡ top_word (before_of p) (at_space text).0 (at_space text).1 → top_word (before d) (at_space text).0 (at_space text).1 ≡ opening_of found

@@ -22,7 +22,7 @@ use Rattle.chv_script.proofs.InstructionLemmas.{line_again, text_no_feed}
 use Rattle.chv_script.proofs.KindLemmas.{dec_again, dec_plain, plain_no_space, plain_no_feed}
 use Rattle.chv_scene.proofs.RequestLemmas.{no_feed}
 use Rattle.chv_scene.proofs.ReadBackLemmas.{first_line, no_space, only_field, first_field, one_field, joined_no_feed, front, front_read, request_lines}
-use Rattle.chv_scene.proofs.GrammarLemmas.{body_text, all_requests, instruction_line}
+use Rattle.chv_scene.proofs.GrammarLemmas.{body_text, all_requests, instruction_line, section_text}
 use Rattle.chv_scene.proofs.ScriptLemmas.{no_end, instruction_no_end}
 
 -- ---- the section of a session
@@ -199,7 +199,7 @@ vcpus_all b (v ∷ vcpus) sessions order first none fine ascend few good last n 
     ∙ ap (of_scene (with_numbers v.vcpu v.fuel)) (vcpu_read now [] script rest (record { disks = []; vcpus = vcpus; sessions = sessions; order = order }) is.short is.script.instructions (script_is_read (map line_text script) script is.script) (vcpus_all now vcpus sessions order first none fine.1 ascend.1 few good last) (n + 1))))
   where
     one_vcpu : (v : VcpuSection) (vcpus sessions order : List ℕ) → ((vcpu_section v ++ vcpus) ++ sessions) ++ order ≡ codes "vcpu" ++ field (dec_text v.vcpu) ++ field (dec_text v.fuel) ++ codes "\n" ++ behind_vcpu v.script.lines ((vcpus ++ sessions) ++ order)
-    one_vcpu v vcpus sessions order = simp append_assoc
+    one_vcpu v vcpus sessions order = sym (section_text (codes "vcpu" ++ field (dec_text v.vcpu) ++ field (dec_text v.fuel) ++ codes "\n") (flat_map instruction_line v.script.lines) vcpus sessions order)
 
 -- a scenario is read as its scene
 pub scenario_is_read : (text : List ℕ) (s : Scene) → IsScenario text s → read_scenario text ≡ Ok s

@@ -93,17 +93,28 @@ fn vcpu_fields(passed: &Passed, number: &[u8], fuel: Option<&[u8]>) -> Result<Op
     if has_space(fuel) {
         return Err(Reason::FieldCount);
     }
-    vcpu_numbers(passed, ranged(0, LAST_VCPU, number), ranged(0, MOST_FUEL, fuel))
+    vcpu_numbers(
+        passed,
+        ranged(0, LAST_VCPU, number),
+        ranged(0, MOST_FUEL, fuel),
+    )
 }
 
-fn vcpu_numbers(passed: &Passed, vcpu: Result<u64, Reason>, fuel: Result<u64, Reason>) -> Result<Opens, Reason>
+fn vcpu_numbers(
+    passed: &Passed,
+    vcpu: Result<u64, Reason>,
+    fuel: Result<u64, Reason>,
+) -> Result<Opens, Reason>
     requires { IfOk vcpu (λ number. number ≤ 15) }
     ensures { opening_of result ≡ line.vcpu_numbers (before_of passed.now) vcpu fuel }
 {
     match (vcpu, fuel) {
         (Err(reason), _) => Err(reason),
         (_, Err(reason)) => Err(reason),
-        (Ok(vcpu), Ok(fuel)) if is_early(passed) && passed.vcpus <= vcpu => Ok(Opens::Vcpu { vcpu: vcpu as u8, fuel }),
+        (Ok(vcpu), Ok(fuel)) if is_early(passed) && passed.vcpus <= vcpu => Ok(Opens::Vcpu {
+            vcpu: vcpu as u8,
+            fuel,
+        }),
         _ => Err(Reason::OutOfOrder),
     }
 }

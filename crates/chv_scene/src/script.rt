@@ -31,7 +31,12 @@ pub(crate) struct OpenScript {
 
 impl OpenScript {
     /// The section of this vCPU, whose lines stand behind.
-    pub(crate) fn new(alloc: Global, vcpu: u8, fuel: u64, behind: &[u8]) -> Result<OpenScript, AllocError>
+    pub(crate) fn new(
+        alloc: Global,
+        vcpu: u8,
+        fuel: u64,
+        behind: &[u8],
+    ) -> Result<OpenScript, AllocError>
         ensures { IfOk result (λ script. IsOpened vcpu fuel script (lines_of behind.now)) }
     {
         let all = section_labels(alloc, behind)?;
@@ -45,7 +50,11 @@ impl OpenScript {
     }
 
     /// Reads the next line. Whether the section goes on, or why the line fails.
-    pub(crate) fn take(&mut self, alloc: Global, text: &[u8]) -> Result<Result<bool, Reason>, AllocError>
+    pub(crate) fn take(
+        &mut self,
+        alloc: Global,
+        text: &[u8],
+    ) -> Result<Result<bool, Reason>, AllocError>
         ensures { IfOk result (λ went. WentScript self.old self.new went text.now) }
     {
         match self.line(alloc, text)? {

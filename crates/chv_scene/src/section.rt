@@ -55,7 +55,10 @@ fn route_name(alloc: Global, field: &[u8]) -> Result<Option<Text>, AllocError>
     }
 }
 
-fn get_line(alloc: Global, fields: Option<&[u8]>) -> Result<Result<Option<Asked>, Reason>, AllocError>
+fn get_line(
+    alloc: Global,
+    fields: Option<&[u8]>,
+) -> Result<Result<Option<Asked>, Reason>, AllocError>
     ensures { IfOk result (λ answer. part_of answer ≡ line.get_line (option_map (λ s. s.now) fields.entry)) }
 {
     let Some(field) = fields else {
@@ -70,7 +73,10 @@ fn get_line(alloc: Global, fields: Option<&[u8]>) -> Result<Result<Option<Asked>
     }
 }
 
-fn put_line(alloc: Global, fields: Option<&[u8]>) -> Result<Result<Option<Asked>, Reason>, AllocError>
+fn put_line(
+    alloc: Global,
+    fields: Option<&[u8]>,
+) -> Result<Result<Option<Asked>, Reason>, AllocError>
     ensures { IfOk result (λ answer. part_of answer ≡ line.put_line (option_map (λ s. s.now) fields.entry)) }
 {
     let Some(fields) = fields else {
@@ -83,7 +89,10 @@ fn put_line(alloc: Global, fields: Option<&[u8]>) -> Result<Result<Option<Asked>
     }
 }
 
-fn put_without_body(alloc: Global, field: &[u8]) -> Result<Result<Option<Asked>, Reason>, AllocError>
+fn put_without_body(
+    alloc: Global,
+    field: &[u8],
+) -> Result<Result<Option<Asked>, Reason>, AllocError>
     ensures { IfOk result (λ answer. part_of answer ≡ line.put_name field.now None) }
 {
     match route_name(alloc, field)? {
@@ -114,7 +123,10 @@ fn put_with_body(
     }
 }
 
-fn raw_line(alloc: Global, fields: Option<&[u8]>) -> Result<Result<Option<Asked>, Reason>, AllocError>
+fn raw_line(
+    alloc: Global,
+    fields: Option<&[u8]>,
+) -> Result<Result<Option<Asked>, Reason>, AllocError>
     ensures { IfOk result (λ answer. part_of answer ≡ line.raw_line (option_map (λ s. s.now) fields.entry)) }
 {
     let Some(digits) = fields else {
