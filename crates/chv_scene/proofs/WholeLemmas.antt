@@ -190,13 +190,15 @@ vcpus_all b (v ∷ vcpus) sessions order first none fine ascend few good last n 
     let is = fine.0 in
     let now : Before = record b { vcpus = v.vcpu + 1 } in
     let script = v.script.lines in
+    let fits = is.short in
+    let short : 0 + length script ≤ most_lines = omega (arith, fits) in
     let rest = flat_map vcpu_section vcpus ++ flat_map session_section sessions ++ order_section order in
     let lines = lines_of (behind_vcpu script rest) in
     let early : is_early b ≡ true = ap₂ (λ k o. k == 0 && not o) first none in
     ap (λ t. read_lines Outside b n (lines_of t)) (one_vcpu v (flat_map vcpu_section vcpus) (flat_map session_section sessions) (order_section order))
     ∙ (ap (read_lines Outside b n) (vcpu_line v.vcpu v.fuel (behind_vcpu script rest) is.vcpu is.fuel)
     ∙ (ap (λ opens. top_part n b opens (λ place after. read_lines place after (n + 1) lines)) (opening_read b v.vcpu v.fuel early ascend.0 is.vcpu is.fuel)
-    ∙ ap (of_scene (with_numbers v.vcpu v.fuel)) (vcpu_read now [] script rest (record { disks = []; vcpus = vcpus; sessions = sessions; order = order }) is.short is.script.instructions (script_is_read (map line_text script) script is.script) (vcpus_all now vcpus sessions order first none fine.1 ascend.1 few good last) (n + 1))))
+    ∙ ap (of_scene (with_numbers v.vcpu v.fuel)) (vcpu_read now [] script rest (record { disks = []; vcpus = vcpus; sessions = sessions; order = order }) short is.script.instructions (script_is_read (map line_text script) script is.script) (vcpus_all now vcpus sessions order first none fine.1 ascend.1 few good last) (n + 1))))
   where
     one_vcpu : (v : VcpuSection) (vcpus sessions order : List ℕ) → ((vcpu_section v ++ vcpus) ++ sessions) ++ order ≡ codes "vcpu" ++ field (dec_text v.vcpu) ++ field (dec_text v.fuel) ++ codes "\n" ++ behind_vcpu v.script.lines ((vcpus ++ sessions) ++ order)
     one_vcpu v vcpus sessions order = sym (section_text (codes "vcpu" ++ field (dec_text v.vcpu) ++ field (dec_text v.fuel) ++ codes "\n") (flat_map instruction_line v.script.lines) vcpus sessions order)

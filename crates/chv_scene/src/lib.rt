@@ -1,4 +1,4 @@
-//! The reader of scenarios: the scene that a text spells, or its first line that fails.
+//! Scenarios: the scene that a text spells, or its first line that fails; and the text of a scene.
 #![tactic(auto)]
 
 mod fields;
@@ -6,6 +6,7 @@ mod laws;
 mod lines;
 mod meaning;
 mod outside;
+mod printing;
 mod reading;
 mod scenario;
 mod script;
@@ -13,4 +14,5 @@ mod section;
 mod steps;
 
 pub use laws::reads_exactly_the_scenarios;
+pub use printing::print;
 pub use scenario::{SceneFault, read};
