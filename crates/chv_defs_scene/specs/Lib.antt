@@ -1,3 +1,4 @@
+pub mod ScenarioLines
 pub mod ScenarioText
 pub mod SceneText
 pub mod ScriptReading

@@ -1,6 +1,6 @@
 -- A text is cut at a byte: its fields at a space, its lines at a line feed.
 use Rattle.std.proofs.Common.{◌≡◌, ℕ, ◌<◌, ◌≤◌, ◌==◌, Bool, true, false, if◌then◌else◌, List, [], ◌∷◌, length, Option, None, Some, refl, ap, arith}
-use Rattle.chv_defs_scene.specs.ScenarioText.{Line, lines_of, onto_line}
+use Rattle.chv_defs_scene.specs.ScenarioLines.{Line, lines_of, onto_line}
 use Rattle.chv_scene.specs.Cuts.{cut_at}
 
 -- whether something stands behind
@@ -45,3 +45,8 @@ lines-cut_at (b ∷ bytes) h = lines-cut b bytes
 pub behind-shorter : (at : ℕ) (text : List ℕ) → 0 < length text → length (or_nothing (cut_at at text).1) < length text
 behind-shorter at [] h = absurd (omega arith)
 behind-shorter at (b ∷ bytes) h = let less = behind_from (b == at) at b bytes (behind-le at bytes) in omega (arith, less)
+
+-- a text without bytes has no lines
+pub no_lines : (text : List ℕ) → length text ≡ 0 → lines_of text ≡ []
+no_lines [] h = refl
+no_lines (b ∷ bytes) h = absurd (omega (arith, h))

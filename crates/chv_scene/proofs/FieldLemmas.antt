@@ -7,7 +7,7 @@ use Rattle.std.proofs.lemmas.Bool.Decides.{nat_tests}
 use Rattle.std.proofs.lemmas.Str.{IsUtf8-from_ascii}
 use Rattle.std.proofs.lemmas.Str.Ascii.{IsAscii-from_all}
 use Rattle.std.proofs.lemmas.List.Elements.{All-nil, All-cons}
-use Rattle.chv_defs_scene.specs.ScenarioText.{is_route_byte, is_route_name}
+use Rattle.chv_defs_scene.specs.ScenarioLines.{is_route_byte, is_route_name}
 
 ascii_byte : (b : ℕ) → is_route_byte b ≡ true → b < 128
 ascii_byte b h = grind (arith, nat_tests)

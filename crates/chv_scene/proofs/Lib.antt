@@ -1,7 +1,12 @@
 pub mod CutLemmas
-pub mod FewLemmas
 pub mod FieldLemmas
 pub mod GrammarLemmas
+pub mod OpeningLemmas
+pub mod OrderLemmas
+pub mod Printed
 pub mod ReadBackLemmas
 pub mod ReadingLemmas
+pub mod RequestLemmas
+pub mod ScriptLemmas
 pub mod SpellingLemmas
+pub mod WholeLemmas

@@ -1,16 +1,17 @@
--- The text of a scenario is read as its sessions.
-use Rattle.std.proofs.Common.{◌≡◌, ℕ, ◌+◌, ◌<◌, ◌≤◌, ◌==◌, ◌&&◌, not, nat_lt, nat_le, Bool, true, false, cond, List, [], ◌∷◌, ◌++◌, length, flat_map, codes, Option, None, Some, Ok, Err, refl, sym, ◌∙◌, ap, append_assoc, arith}
+-- The line of a request is read as it.
+use Rattle.std.proofs.Common.{◌≡◌, ℕ, ◌<◌, ◌==◌, ◌&&◌, not, nat_lt, nat_le, Bool, true, false, cond, List, [], ◌∷◌, ◌++◌, length, codes, Option, None, Some, Ok, Err, refl, sym, ◌∙◌, ap, append_assoc, arith}
 use Rattle.std.specs.List.{list_all}
-use Rattle.std.proofs.lemmas.Bool.{and_parts, and_from, or_from, cond-true, cond-false, ne_eqb, ltb-true, lt-ltb}
+use Rattle.std.proofs.lemmas.Bool.{and_parts, and_from, or_from, cond-true, cond-false, ne_eqb, ltb-true}
 use Rattle.chv_defs_base.specs.Numbers.{is_hex_digit, pairs, bytes_of}
-use Rattle.chv_defs_scene.specs.ScenarioText.{Line, lines_of, onto_line, at_space, has_space, is_route_byte, is_route_name, Asks, named, put_name, raw_bytes, section_line, Sessions, with_request, with_session, of_sessions, section_part, top_part, read_lines, read_scenario, is_request, IsScenario}
-use Rattle.chv_defs_scene.specs.SceneText.{request_line, session_section}
+use Rattle.chv_defs_scene.specs.ScenarioLines.{Line, lines_of, onto_line, at_space, has_space, is_route_byte, is_route_name, Has, named, put_name, raw_bytes, session_line}
+use Rattle.chv_defs_scene.specs.ScenarioText.{is_request}
+use Rattle.chv_defs_scene.specs.SceneText.{request_line}
 use Rattle.chv_defs_scene.specs.declared.scene.Asked.{Asked}
 use Rattle.chv_defs_scene.specs.declared.scene.Asked.TheVariants as asked
-use Rattle.chv_defs_base.specs.declared.rule.Reason.TheVariants.{BadName, FieldCount, TooMany}
+use Rattle.chv_defs_base.specs.declared.rule.Reason.TheVariants.{BadName, FieldCount}
 use Rattle.chv_num.proofs.PairBytes.{pairs_digits, byte_at}
 use Rattle.chv_num.proofs.PairSpelling.{pairs_read_back}
-use Rattle.chv_scene.proofs.GrammarLemmas.{no_feed, are_requests, all_requests}
+use Rattle.chv_scene.proofs.RequestLemmas.{no_feed}
 
 -- ---- the first line and the first field of a text
 
@@ -19,27 +20,27 @@ byte_line true b bytes rest lines is h = absurd (cc)
 byte_line false b bytes rest lines is h = ap (onto_line b) h
 
 -- a text up to its first line feed is its first line
-first_line : (text rest : List ℕ) → no_feed text ≡ true → lines_of (text ++ 10 ∷ rest) ≡ record { text = text; is_ended = true } ∷ lines_of rest
+pub first_line : (text rest : List ℕ) → no_feed text ≡ true → lines_of (text ++ 10 ∷ rest) ≡ record { text = text; is_ended = true } ∷ lines_of rest
 first_line [] rest h = refl
 first_line (b ∷ bytes) rest h =
     let parts = and_parts (not (b == 10)) (no_feed bytes) h in
     byte_line (b == 10) b bytes (lines_of rest) (lines_of (bytes ++ 10 ∷ rest)) parts.0 (first_line bytes rest parts.1)
 
 -- whether no space stands in a text
-abbrev no_space : List ℕ → Bool
+abbrev pub no_space : List ℕ → Bool
 no_space text = list_all (λ b. not (b == 32)) text
 
 byte_field : (v : Bool) (b : ℕ) (bytes text : List ℕ) (parts : List ℕ × Option (List ℕ)) (behind : Option (List ℕ)) → not v ≡ true → parts ≡ (bytes, behind) → let found : List ℕ × Option (List ℕ) = cond v ([], Some text) (b ∷ parts.0, parts.1) in let wanted : List ℕ × Option (List ℕ) = (b ∷ bytes, behind) in found ≡ wanted
 byte_field true b bytes text parts behind is h = absurd (cc)
 byte_field false b bytes text parts behind is h = ap (λ (p : List ℕ × Option (List ℕ)). (b ∷ p.0, p.1)) h
 
-only_field : (text : List ℕ) → no_space text ≡ true → at_space text ≡ (text, None)
+pub only_field : (text : List ℕ) → no_space text ≡ true → at_space text ≡ (text, None)
 only_field [] h = refl
 only_field (b ∷ bytes) h =
     let parts = and_parts (not (b == 32)) (no_space bytes) h in
     byte_field (b == 32) b bytes bytes (at_space bytes) None parts.0 (only_field bytes parts.1)
 
-first_field : (text rest : List ℕ) → no_space text ≡ true → at_space (text ++ 32 ∷ rest) ≡ (text, Some rest)
+pub first_field : (text rest : List ℕ) → no_space text ≡ true → at_space (text ++ 32 ∷ rest) ≡ (text, Some rest)
 first_field [] rest h = refl
 first_field (b ∷ bytes) rest h =
     let parts = and_parts (not (b == 32)) (no_space bytes) h in
@@ -49,7 +50,7 @@ not_is : (v : Bool) → not v ≡ true → v ≡ false
 not_is true h = absurd (cc)
 not_is false h = refl
 
-one_field : (text : List ℕ) → no_space text ≡ true → has_space text ≡ false
+pub one_field : (text : List ℕ) → no_space text ≡ true → has_space text ≡ false
 one_field [] h = refl
 one_field (b ∷ bytes) h =
     let parts = and_parts (not (b == 32)) (no_space bytes) h in
@@ -80,7 +81,7 @@ name_no_space name h = all_so is_route_byte (λ b. not (b == 32)) (λ b is. othe
 -- ---- the line of a request
 
 -- such a line without its line feed
-abbrev front : Asked → List ℕ
+abbrev pub front : Asked → List ℕ
 front (asked.Get name) = codes "get" ++ 32 ∷ name
 front (asked.Put name None) = codes "put" ++ 32 ∷ name
 front (asked.Put name (Some body)) = codes "put" ++ 32 ∷ (name ++ 32 ∷ body)
@@ -93,7 +94,7 @@ front_line (asked.Put name (Some body)) rest = simp append_assoc
 front_line (asked.Raw bytes) rest = simp append_assoc
 
 -- two texts without a line feed and a space between them
-joined_no_feed : (text rest : List ℕ) → no_feed text ≡ true → no_feed rest ≡ true → no_feed (text ++ 32 ∷ rest) ≡ true
+pub joined_no_feed : (text rest : List ℕ) → no_feed text ≡ true → no_feed rest ≡ true → no_feed (text ++ 32 ∷ rest) ≡ true
 joined_no_feed [] rest h g = g
 joined_no_feed (b ∷ bytes) rest h g =
     let parts = and_parts (not (b == 10)) (no_feed bytes) h in
@@ -120,71 +121,36 @@ front_no_feed (asked.Put name (Some body)) h =
 front_no_feed (asked.Raw bytes) h =
     all_so is_hex_digit (λ b. not (b == 10)) (λ b is. other_byte is_hex_digit 10 b refl is) (pairs bytes) (pairs_digits bytes (raw_parts bytes h).1)
 
-get_read : (name : List ℕ) → is_route_name name ≡ true → section_line (record { text = front (asked.Get name); is_ended = true }) ≡ Ok (Asks (asked.Get name))
+get_read : (name : List ℕ) → is_route_name name ≡ true → session_line (record { text = front (asked.Get name); is_ended = true }) ≡ Ok (Has (asked.Get name))
 get_read name h =
     cond-false (has_space name) (Err FieldCount) (named name (asked.Get name)) (one_field name (name_no_space name h))
-    ∙ cond-true (is_route_name name) (Ok (Asks (asked.Get name))) (Err BadName) h
+    ∙ cond-true (is_route_name name) (Ok (Has (asked.Get name))) (Err BadName) h
 
-put_read : (name : List ℕ) → is_route_name name ≡ true → section_line (record { text = front (asked.Put name None); is_ended = true }) ≡ Ok (Asks (asked.Put name None))
+put_read : (name : List ℕ) → is_route_name name ≡ true → session_line (record { text = front (asked.Put name None); is_ended = true }) ≡ Ok (Has (asked.Put name None))
 put_read name h =
     ap (λ (parts : List ℕ × Option (List ℕ)). put_name parts.0 parts.1) (only_field name (name_no_space name h))
-    ∙ cond-true (is_route_name name) (Ok (Asks (asked.Put name None))) (Err BadName) h
+    ∙ cond-true (is_route_name name) (Ok (Has (asked.Put name None))) (Err BadName) h
 
-some_body_read : (name body : List ℕ) → is_route_name name ≡ true → 0 < length body → put_name name (Some body) ≡ Ok (Asks (asked.Put name (Some body)))
+some_body_read : (name body : List ℕ) → is_route_name name ≡ true → 0 < length body → put_name name (Some body) ≡ Ok (Has (asked.Put name (Some body)))
 some_body_read name [] h some = absurd (omega arith)
-some_body_read name (b ∷ body) h some = cond-true (is_route_name name) (Ok (Asks (asked.Put name (Some (b ∷ body))))) (Err BadName) h
+some_body_read name (b ∷ body) h some = cond-true (is_route_name name) (Ok (Has (asked.Put name (Some (b ∷ body))))) (Err BadName) h
 
-body_read : (name body : List ℕ) → is_route_name name ≡ true → 0 < length body → section_line (record { text = front (asked.Put name (Some body)); is_ended = true }) ≡ Ok (Asks (asked.Put name (Some body)))
+body_read : (name body : List ℕ) → is_route_name name ≡ true → 0 < length body → session_line (record { text = front (asked.Put name (Some body)); is_ended = true }) ≡ Ok (Has (asked.Put name (Some body)))
 body_read name body h some =
     ap (λ (parts : List ℕ × Option (List ℕ)). put_name parts.0 parts.1) (first_field name body (name_no_space name h)) ∙ some_body_read name body h some
 
-raw_read : (bytes : List ℕ) → 0 < length bytes → list_all (λ b. nat_lt b 256) bytes ≡ true → section_line (record { text = front (asked.Raw bytes); is_ended = true }) ≡ Ok (Asks (asked.Raw bytes))
+raw_read : (bytes : List ℕ) → 0 < length bytes → list_all (λ b. nat_lt b 256) bytes ≡ true → session_line (record { text = front (asked.Raw bytes); is_ended = true }) ≡ Ok (Has (asked.Raw bytes))
 raw_read bytes some h =
     let plain = all_so is_hex_digit (λ b. not (b == 32)) (λ b is. other_byte is_hex_digit 32 b refl is) (pairs bytes) (pairs_digits bytes h) in
     cond-false (has_space (pairs bytes)) (Err FieldCount) (raw_bytes (bytes_of (pairs bytes))) (one_field (pairs bytes) plain)
     ∙ ap raw_bytes (pairs_read_back bytes (byte_at bytes h) some)
 
-front_read : (request : Asked) → is_request request ≡ true → section_line (record { text = front request; is_ended = true }) ≡ Ok (Asks request)
+pub front_read : (request : Asked) → is_request request ≡ true → session_line (record { text = front request; is_ended = true }) ≡ Ok (Has request)
 front_read (asked.Get name) h = get_read name h
 front_read (asked.Put name None) h = put_read name h
 front_read (asked.Put name (Some body)) h = let parts = body_parts name body h in body_read name body parts.0 parts.1
 front_read (asked.Raw bytes) h = let parts = raw_parts bytes h in raw_read bytes parts.0 parts.1
 
--- ---- the whole
-
 -- the lines of a text that begins with a request
-request_lines : (request : Asked) (rest : List ℕ) → is_request request ≡ true → lines_of (request_line request ++ rest) ≡ record { text = front request; is_ended = true } ∷ lines_of rest
+pub request_lines : (request : Asked) (rest : List ℕ) → is_request request ≡ true → lines_of (request_line request ++ rest) ≡ record { text = front request; is_ended = true } ∷ lines_of rest
 request_lines request rest h = ap lines_of (front_line request rest) ∙ first_line (front request) rest (front_no_feed request h)
-
--- a section behind its first line, and what follows it
-abbrev behind_first : List Asked → List ℕ → List ℕ
-behind_first requests rest = (flat_map request_line requests ++ codes "end\n") ++ rest
-
-one_request : (request : Asked) (requests : List Asked) (rest : List ℕ) → behind_first (request ∷ requests) rest ≡ request_line request ++ behind_first requests rest
-one_request request requests rest = simp append_assoc
-
--- the rest of a section is read, where what follows it is
-section_read : (requests : List Asked) (rest : List ℕ) (sessions : Sessions) (opened : ℕ) → are_requests requests ≡ true → ((n : ℕ) → read_lines false opened n (lines_of rest) ≡ Ok sessions) → (n : ℕ) → read_lines true opened n (lines_of (behind_first requests rest)) ≡ Ok (requests ∷ sessions)
-section_read [] rest sessions opened good h n = ap (of_sessions with_session) (h (n + 1))
-section_read (request ∷ requests) rest sessions opened good h n =
-    let parts = and_parts (is_request request) (are_requests requests) good in
-    let lines = lines_of (behind_first requests rest) in
-    ap (read_lines true opened n) (ap lines_of (one_request request requests rest) ∙ request_lines request (behind_first requests rest) parts.0)
-    ∙ (ap (λ means. section_part n means (read_lines true opened (n + 1) lines) (read_lines false opened (n + 1) lines)) (front_read request parts.0)
-    ∙ ap (of_sessions (with_request request)) (section_read requests rest sessions opened parts.1 h (n + 1)))
-
-sessions_read : (sessions : Sessions) (opened : ℕ) → length sessions + opened ≤ 16 → all_requests sessions ≡ true → (n : ℕ) → read_lines false opened n (lines_of (flat_map session_section sessions)) ≡ Ok sessions
-sessions_read [] opened few good n = refl
-sessions_read (requests ∷ sessions) opened few good n =
-    let parts = and_parts (are_requests requests) (all_requests sessions) good in
-    let rest = flat_map session_section sessions in
-    let free : opened < 16 = omega (arith, few) in
-    let less : length sessions + (opened + 1) ≤ 16 = omega (arith, few) in
-    ap (λ fault. top_part n fault (read_lines true (opened + 1) (n + 1) (lines_of (behind_first requests rest)))) (cond-true (nat_lt opened 16) None (Some TooMany) (lt-ltb opened 16 free))
-    ∙ section_read requests rest sessions (opened + 1) parts.0 (sessions_read sessions (opened + 1) less parts.1) (n + 1)
-
--- a scenario is read as its sessions
-pub scenario_is_read : (text : List ℕ) (sessions : Sessions) → IsScenario text sessions → read_scenario text ≡ Ok sessions
-scenario_is_read text sessions is =
-    let few : length sessions + 0 ≤ 16 = omega (arith, is.few) in
-    ap read_scenario is.spelled ∙ sessions_read sessions 0 few is.requests 1

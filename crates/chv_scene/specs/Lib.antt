@@ -1,3 +1,5 @@
 pub mod Answer
 pub mod Cuts
+pub mod Meanings
 pub mod Reading
+pub mod Scripts

@@ -1,11 +1,13 @@
 // The fields of a line.
-ghost use Rattle.std.specs.Prelude.{◌≡◌, ◌==◌, ◌&&◌, nat_le, length, option_map};
+ghost use Rattle.std.specs.Prelude.{◌≡◌, ◌≤◌, ◌==◌, ◌&&◌, nat_le, length, option_map, IfOk};
 ghost use Rattle.std.specs.List.{list_all};
 ghost use Rattle.std.specs.Str.{bytes_eq};
-ghost use Rattle.chv_defs_scene.specs.ScenarioText.{is_route_byte};
-ghost use Rattle.chv_defs_scene.specs.ScenarioText as line;
+ghost use Rattle.chv_defs_base.specs.Numbers.{dec};
+ghost use Rattle.chv_defs_scene.specs.ScenarioLines.{is_route_byte};
+ghost use Rattle.chv_defs_scene.specs.ScenarioLines as line;
 ghost use Rattle.chv_scene.specs.Cuts.{cut_at};
 
+use chv_defs_base::Reason;
 use chv_num::read_dec;
 
 const SPACE: u8 = b' ';
@@ -64,12 +66,13 @@ pub(crate) fn is_route_name(field: &[u8]) -> bool
     1 <= field.len() && field.len() <= 32 && are_route_bytes(field)
 }
 
-/// Whether the field spells a number from `low` to `high`.
-pub(crate) fn is_number_in(low: u64, high: u64, field: &[u8]) -> bool
-    ensures { result ≡ line.is_number_in low high field.now }
+/// The number from `low` to `high` that the field spells.
+pub(crate) fn ranged(low: u64, high: u64, field: &[u8]) -> Result<u64, Reason>
+    ensures answer { result ≡ line.ranged low high (dec field.now) }
+    ensures most { IfOk result (λ number. number ≤ high) }
 {
     match read_dec(field) {
-        Some(number) => low <= number && number <= high,
-        None => false,
+        Some(number) if low <= number && number <= high => Ok(number),
+        _ => Err(Reason::BadNumber),
     }
 }

@@ -1,13 +1,18 @@
-//! The reader of scenarios: the scene that a text spells, or its first line that fails.
+//! Scenarios: the scene that a text spells, or its first line that fails; and the text of a scene.
 #![tactic(auto)]
 
 mod fields;
 mod laws;
 mod lines;
+mod meaning;
 mod outside;
+mod printing;
 mod reading;
 mod scenario;
+mod script;
 mod section;
+mod steps;
 
 pub use laws::reads_exactly_the_scenarios;
+pub use printing::print;
 pub use scenario::{SceneFault, read};

@@ -1,6 +1,6 @@
 // The lines of a text.
 ghost use Rattle.std.specs.Prelude.{◌≡◌, ◌<◌, ◌∷◌, length};
-ghost use Rattle.chv_defs_scene.specs.ScenarioText.{lines_of};
+ghost use Rattle.chv_defs_scene.specs.ScenarioLines.{lines_of};
 
 use crate::fields::cut;
 

@@ -19,8 +19,7 @@ pub struct SceneFault {
 }
 
 /// Reads a scenario, or says which of its lines is the first that fails, and why. Each byte is looked at a bounded number
-/// of times, and a body is copied once. So far a scenario has sessions alone, at most 16 of them; the scene has no disk, no
-/// vCPU and no order.
+/// of times, and a body is copied once. So far a scenario makes no disk.
 pub fn read(alloc: Global, text: &[u8]) -> Result<Result<Scene, SceneFault>, AllocError>
     requires { length text.now + 1 < 2 ^ 32 }
     ensures answer { IfOk result (λ answer. answer ≡ answer_of (read_scenario text.now)) }
@@ -31,7 +30,7 @@ pub fn read(alloc: Global, text: &[u8]) -> Result<Result<Scene, SceneFault>, All
     let mut rest = text;
     while !rest.is_empty() {
         let (text, is_ended, behind) = next_line(rest);
-        if let Some(reason) = reading.take(alloc, text, is_ended)? {
+        if let Some(reason) = reading.take(alloc, text, is_ended, behind)? {
             return Ok(Err(SceneFault { line, reason }));
         }
         line += 1;
@@ -44,16 +43,16 @@ pub fn read(alloc: Global, text: &[u8]) -> Result<Result<Scene, SceneFault>, All
 fn finish(alloc: Global, reading: Reading, line: u32) -> Result<Scene, SceneFault>
     ensures { result ≡ answer_of (resumed reading line []) }
 {
-    match reading.asked {
-        Some(_) => Err(SceneFault {
+    if !reading.open.is_outside() {
+        return Err(SceneFault {
             line,
             reason: Reason::Unclosed,
-        }),
-        None => Ok(Scene {
-            disks: Row::empty(alloc),
-            vcpus: Row::empty(alloc),
-            sessions: reading.ended,
-            order: None,
-        }),
+        });
     }
+    Ok(Scene {
+        disks: Row::empty(alloc),
+        vcpus: reading.done.vcpus,
+        sessions: reading.done.sessions,
+        order: reading.done.order,
+    })
 }

@@ -1,31 +1,32 @@
 // A line of a session's section.
 ghost use Rattle.std.specs.Prelude.{◌≡◌, IfOk, Some, None, option_map, if◌then◌else◌};
-ghost use Rattle.chv_defs_scene.specs.ScenarioText.{is_route_name as is_name_of_route, section_word};
-ghost use Rattle.chv_defs_scene.specs.ScenarioText as line;
-ghost use Rattle.chv_scene.specs.Reading.{part_of};
+ghost use Rattle.chv_defs_scene.specs.ScenarioLines.{is_route_name as is_name_of_route, session_word};
+ghost use Rattle.chv_defs_scene.specs.ScenarioLines as line;
+ghost use Rattle.chv_scene.specs.Meanings.{part_of, Went};
 
 use crate::fields::{at_space, has_space, is_route_name, is_word};
-use chv_defs_base::{Bytes, Reason, Text};
+use crate::meaning::{end_line, grown};
+use chv_defs_base::{Bytes, Reason, Row, Text};
 use chv_defs_scene::Asked;
 use chv_num::bytes_of_hex;
 use std::alloc::{AllocError, Global};
 use std::str::from_utf8;
 
-/// What a line means.
-#[derive(Drop)]
-pub(crate) enum Meaning {
-    /// A request of the session.
-    Asks(Asked),
-    /// The end of the section.
-    Ends,
+/// Reads the next line of the section with these requests. Whether the section goes on, or why the line fails.
+pub(crate) fn take_request(
+    alloc: Global,
+    requests: &mut Row<Asked>,
+    text: &[u8],
+) -> Result<Result<bool, Reason>, AllocError>
+    ensures { IfOk result (λ went. Went requests.old requests.new went (session_word (line.at_space text.now).0 (line.at_space text.now).1)) }
+{
+    let meaning = session_line(alloc, text)?;
+    grown(requests, meaning)
 }
 
-/// What the line means, or why it fails.
-pub(crate) fn section_line(
-    alloc: Global,
-    text: &[u8],
-) -> Result<Result<Meaning, Reason>, AllocError>
-    ensures { IfOk result (λ answer. part_of answer ≡ section_word (line.at_space text.now).0 (line.at_space text.now).1) }
+// What the line means, or why it fails: a request, or none where it ends the section.
+fn session_line(alloc: Global, text: &[u8]) -> Result<Result<Option<Asked>, Reason>, AllocError>
+    ensures { IfOk result (λ answer. part_of answer ≡ session_word (line.at_space text.now).0 (line.at_space text.now).1) }
 {
     let (word, fields) = at_space(text);
     if is_word(word, "get") {
@@ -54,7 +55,10 @@ fn route_name(alloc: Global, field: &[u8]) -> Result<Option<Text>, AllocError>
     }
 }
 
-fn get_line(alloc: Global, fields: Option<&[u8]>) -> Result<Result<Meaning, Reason>, AllocError>
+fn get_line(
+    alloc: Global,
+    fields: Option<&[u8]>,
+) -> Result<Result<Option<Asked>, Reason>, AllocError>
     ensures { IfOk result (λ answer. part_of answer ≡ line.get_line (option_map (λ s. s.now) fields.entry)) }
 {
     let Some(field) = fields else {
@@ -64,12 +68,15 @@ fn get_line(alloc: Global, fields: Option<&[u8]>) -> Result<Result<Meaning, Reas
         return Ok(Err(Reason::FieldCount));
     }
     match route_name(alloc, field)? {
-        Some(name) => Ok(Ok(Meaning::Asks(Asked::Get(name)))),
+        Some(name) => Ok(Ok(Some(Asked::Get(name)))),
         None => Ok(Err(Reason::BadName)),
     }
 }
 
-fn put_line(alloc: Global, fields: Option<&[u8]>) -> Result<Result<Meaning, Reason>, AllocError>
+fn put_line(
+    alloc: Global,
+    fields: Option<&[u8]>,
+) -> Result<Result<Option<Asked>, Reason>, AllocError>
     ensures { IfOk result (λ answer. part_of answer ≡ line.put_line (option_map (λ s. s.now) fields.entry)) }
 {
     let Some(fields) = fields else {
@@ -82,11 +89,14 @@ fn put_line(alloc: Global, fields: Option<&[u8]>) -> Result<Result<Meaning, Reas
     }
 }
 
-fn put_without_body(alloc: Global, field: &[u8]) -> Result<Result<Meaning, Reason>, AllocError>
+fn put_without_body(
+    alloc: Global,
+    field: &[u8],
+) -> Result<Result<Option<Asked>, Reason>, AllocError>
     ensures { IfOk result (λ answer. part_of answer ≡ line.put_name field.now None) }
 {
     match route_name(alloc, field)? {
-        Some(name) => Ok(Ok(Meaning::Asks(Asked::Put { name, body: None }))),
+        Some(name) => Ok(Ok(Some(Asked::Put { name, body: None }))),
         None => Ok(Err(Reason::BadName)),
     }
 }
@@ -95,7 +105,7 @@ fn put_with_body(
     alloc: Global,
     field: &[u8],
     body: &[u8],
-) -> Result<Result<Meaning, Reason>, AllocError>
+) -> Result<Result<Option<Asked>, Reason>, AllocError>
     ensures { IfOk result (λ answer. part_of answer ≡ line.put_name field.now (Some body.now)) }
 {
     if body.is_empty() {
@@ -104,7 +114,7 @@ fn put_with_body(
     match route_name(alloc, field)? {
         Some(name) => {
             let body = Bytes::of(alloc, body)?;
-            Ok(Ok(Meaning::Asks(Asked::Put {
+            Ok(Ok(Some(Asked::Put {
                 name,
                 body: Some(body),
             })))
@@ -113,7 +123,10 @@ fn put_with_body(
     }
 }
 
-fn raw_line(alloc: Global, fields: Option<&[u8]>) -> Result<Result<Meaning, Reason>, AllocError>
+fn raw_line(
+    alloc: Global,
+    fields: Option<&[u8]>,
+) -> Result<Result<Option<Asked>, Reason>, AllocError>
     ensures { IfOk result (λ answer. part_of answer ≡ line.raw_line (option_map (λ s. s.now) fields.entry)) }
 {
     let Some(digits) = fields else {
@@ -123,16 +136,7 @@ fn raw_line(alloc: Global, fields: Option<&[u8]>) -> Result<Result<Meaning, Reas
         return Ok(Err(Reason::FieldCount));
     }
     match bytes_of_hex(alloc, digits)? {
-        Some(bytes) => Ok(Ok(Meaning::Asks(Asked::Raw(Bytes::new(bytes))))),
+        Some(bytes) => Ok(Ok(Some(Asked::Raw(Bytes::new(bytes))))),
         None => Ok(Err(Reason::BadHex)),
-    }
-}
-
-fn end_line(fields: Option<&[u8]>) -> Result<Meaning, Reason>
-    ensures { part_of result ≡ line.end_line (option_map (λ s. s.now) fields.entry) }
-{
-    match fields {
-        None => Ok(Meaning::Ends),
-        Some(_) => Err(Reason::FieldCount),
     }
 }

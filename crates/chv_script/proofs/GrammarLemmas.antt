@@ -85,7 +85,7 @@ pub record IsRead (before : List (List ℕ)) (text : List ℕ) (behind : List (L
   pub once : is_there (labels_of before) (own_label l) ≡ false
   pub known : is_missing (labels_of (before ++ text ∷ behind)) (target l) ≡ false
 
-line_read : (before : List (List ℕ)) (text : List ℕ) (behind : List (List ℕ)) (l : Line) → line_between before text behind ≡ Ok l → IsRead before text behind l
+pub line_read : (before : List (List ℕ)) (text : List ℕ) (behind : List (List ℕ)) (l : Line) → line_between before text behind ≡ Ok l → IsRead before text behind l
 line_read before text behind l e =
     let found = bind_ok (line_of text) (λ m. unless (label_fault (labels_of before) (labels_of (before ++ text ∷ behind)) m) m) l e in
     let labels = unless_ok (label_fault (labels_of before) (labels_of (before ++ text ∷ behind)) found.0) found.0 l found.2 in

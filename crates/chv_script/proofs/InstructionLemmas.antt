@@ -1,5 +1,5 @@
 -- A line that is read is the one spelling of its instruction, and that spelling is read back.
-use Rattle.std.proofs.Common.{◌≡◌, ℕ, ◌&&◌, Bool, true, false, cond, List, [], ◌∷◌, codes, None, Some, Result, Ok, Err, refl, sym, ◌∙◌, ap, subst}
+use Rattle.std.proofs.Common.{◌≡◌, ℕ, ◌==◌, ◌&&◌, not, Bool, true, false, cond, List, [], ◌∷◌, ◌++◌, codes, None, Some, Result, Ok, Err, refl, sym, ◌∙◌, ap, subst}
 use Rattle.std.specs.List.{list_all, join_with_byte}
 use Rattle.std.specs.Str.{bytes_eq}
 use Rattle.std.proofs.lemmas.Bool.{and_parts, and_from, cond-true}
@@ -15,9 +15,9 @@ use Rattle.chv_defs_scene.specs.declared.scene.MathOp.{MathOp}
 use Rattle.chv_defs_scene.specs.declared.scene.MathOp.TheVariants as op
 use Rattle.chv_defs_scene.specs.ScriptText.{register, operation, line_text}
 use Rattle.chv_defs_scene.specs.ScriptReading.{fields_of, register_of, port_width_of, value_of, port_of, put_bytes_of, name_of, with_none, with_one, with_two, with_three, with_four, jump_of, access_of, math_of, instruction_of, by_fields, line_of, label_in, own_label, is_register, is_port_width, is_port, is_put, is_instruction}
-use Rattle.chv_script.proofs.FieldLemmas.{no_space}
-use Rattle.chv_script.proofs.KindLemmas.{registers, memory_widths, port_widths, values, ports, names}
+use Rattle.chv_script.proofs.KindLemmas.{is_plain, plain_no_space, plain_no_feed, registers, memory_widths, port_widths, values, ports, names}
 use Rattle.chv_num.proofs.PairBytes.{are_bytes}
+use Rattle.chv_script.proofs.FieldLemmas.{no_space}
 use Rattle.chv_script.proofs.PutLemmas.{is_stored, puts}
 use Rattle.chv_script.proofs.PartLemmas.{is_value, parts, parts_joined, fields_joined}
 use Rattle.chv_script.proofs.ShapeLemmas.{Spelled, none_spelled, one_spelled, one_again, two_spelled, two_again, three_spelled, three_again, four_spelled, four_again}
@@ -119,7 +119,7 @@ parts_again line.Halt h = halt_again
     halt_again : with_none line.Halt [] ≡ Ok line.Halt
     halt_again = unfold with_none in refl
 
-operation_plain : (o : MathOp) → no_space (operation o) ≡ true
+operation_plain : (o : MathOp) → is_plain (operation o) ≡ true
 operation_plain op.Add = refl
 operation_plain op.Sub = refl
 operation_plain op.And = refl
@@ -133,13 +133,13 @@ plain_two h i j = and_from _ _ h (and_from _ _ i (and_from _ _ j refl))
 plain_three : {w a b c : Bool} → w ≡ true → a ≡ true → b ≡ true → c ≡ true → (w && (a && (b && (c && true)))) ≡ true
 plain_three h i j k = and_from _ _ h (plain_two i j k)
 
-plain_access : (word : List ℕ) (w r s n : ℕ) → no_space word ≡ true → (is_width w && is_register r && is_register s && is_value n) ≡ true → list_all no_space (word ∷ dec_text w ∷ register r ∷ register s ∷ hex_text n ∷ []) ≡ true
+plain_access : (word : List ℕ) (w r s n : ℕ) → is_plain word ≡ true → (is_width w && is_register r && is_register s && is_value n) ≡ true → list_all is_plain (word ∷ dec_text w ∷ register r ∷ register s ∷ hex_text n ∷ []) ≡ true
 plain_access word w r s n h g =
     let last = and_parts (is_width w && is_register r && is_register s) (is_value n) g in
     let p = both (is_width w) (is_register r) (is_register s) last.0 in
     and_from _ _ h (plain_three (memory_widths.plain w p.0) (registers.plain r p.1) (registers.plain s p.2) (values.plain n last.1))
 
-parts_plain : (l : Line) → is_instruction l ≡ true → list_all no_space (parts l) ≡ true
+parts_plain : (l : Line) → is_instruction l ≡ true → list_all is_plain (parts l) ≡ true
 parts_plain (line.At name) h = and_from _ _ refl (and_from _ _ (names.plain name h) refl)
 parts_plain (line.Set rd value) h = let p = and_parts (is_register rd) (is_value value) h in plain_two refl (registers.plain rd p.0) (values.plain value p.1)
 parts_plain (line.Mov rd ra) h = let p = and_parts (is_register rd) (is_register ra) h in plain_two refl (registers.plain rd p.0) (registers.plain ra p.1)
@@ -155,13 +155,36 @@ parts_plain (line.Jnz ra to) h = let p = and_parts (is_register ra) (is_id to) h
 parts_plain (line.Jlt ra rb to) h = let p = both (is_register ra) (is_register rb) (is_id to) h in plain_three refl (registers.plain ra p.0) (registers.plain rb p.1) (names.plain to p.2)
 parts_plain line.Halt h = refl
 
-joined_parts : (fields : List (List ℕ)) (l : Line) → fields ≡ parts l → list_all no_space fields ≡ true → by_fields fields ≡ Ok l → fields_of (join_with_byte 32 fields) ≡ fields
+all_no_space : (fields : List (List ℕ)) → list_all is_plain fields ≡ true → list_all no_space fields ≡ true
+all_no_space [] h = refl
+all_no_space (field ∷ fields) h = let p = and_parts (is_plain field) (list_all is_plain fields) h in and_from _ _ (plain_no_space field p.0) (all_no_space fields p.1)
+
+joined_parts : (fields : List (List ℕ)) (l : Line) → fields ≡ parts l → list_all is_plain fields ≡ true → by_fields fields ≡ Ok l → fields_of (join_with_byte 32 fields) ≡ fields
 joined_parts [] l is h e = absurd (cc)
-joined_parts (field ∷ fields) l is h e = fields_joined field fields h
+joined_parts (field ∷ fields) l is h e = fields_joined field fields (all_no_space (field ∷ fields) h)
 
 -- the fields of an instruction's text
 pub text_parts : (l : Line) → is_instruction l ≡ true → fields_of (line_text l) ≡ parts l
 text_parts l h = ap fields_of (sym (parts_joined l)) ∙ joined_parts (parts l) l refl (parts_plain l h) (parts_again l h)
+
+-- whether no line feed stands in a text
+abbrev no_feed : List ℕ → Bool
+no_feed text = list_all (λ b. not (b == 10)) text
+
+joined_no_feed : (text rest : List ℕ) → no_feed text ≡ true → no_feed rest ≡ true → no_feed (text ++ 32 ∷ rest) ≡ true
+joined_no_feed [] rest h g = g
+joined_no_feed (b ∷ bytes) rest h g = let p = and_parts (not (b == 10)) (no_feed bytes) h in and_from _ _ p.0 (joined_no_feed bytes rest p.1 g)
+
+fields_no_feed : (fields : List (List ℕ)) → list_all is_plain fields ≡ true → no_feed (join_with_byte 32 fields) ≡ true
+fields_no_feed [] h = refl
+fields_no_feed (field ∷ []) h = plain_no_feed field (and_parts (is_plain field) true h).0
+fields_no_feed (field ∷ next ∷ fields) h =
+    let p = and_parts (is_plain field) (list_all is_plain (next ∷ fields)) h in
+    joined_no_feed field (join_with_byte 32 (next ∷ fields)) (plain_no_feed field p.0) (fields_no_feed (next ∷ fields) p.1)
+
+-- no line feed stands in the text of an instruction
+pub text_no_feed : (l : Line) → is_instruction l ≡ true → no_feed (line_text l) ≡ true
+text_no_feed l h = subst (λ text. no_feed text ≡ true) (parts_joined l) (fields_no_feed (parts l) (parts_plain l h))
 
 -- the text of an instruction that can stand in a script is read as it
 pub line_again : (l : Line) → is_instruction l ≡ true → line_of (line_text l) ≡ Ok l

@@ -1,4 +1,4 @@
--- Each kind of field has one spelling, without a space, which is read back.
+-- Each kind of field has one spelling, without a space and a line feed, which is read back.
 use Rattle.std.proofs.Common.{◌≡◌, ℕ, ◌^◌, ◌<◌, ◌==◌, ◌&&◌, ◌||◌, not, nat_le, nat_lt, Bool, true, false, cond, List, [], ◌∷◌, ◌++◌, length, take, drop, codes, slice_index, Option, None, Some, Result, Ok, Err, refl, sym, ◌∙◌, ap, subst, arith}
 use Rattle.std.specs.List.{list_all}
 use Rattle.std.specs.Str.{bytes_eq}
@@ -19,11 +19,15 @@ use Rattle.chv_num.proofs.Spelling.{one_spelling, read_back}
 use Rattle.chv_num.proofs.HexSpelling.{chosen as some_chosen, hex_one_spelling, hex_read_back}
 use Rattle.chv_script.proofs.FieldLemmas.{no_space}
 
+-- whether neither a space nor a line feed stands in a text
+abbrev pub is_plain : List ℕ → Bool
+is_plain text = list_all (λ b. not (b == 32) && not (b == 10)) text
+
 -- what is known of a kind of field: its reader, its spelling and its values
 pub record IsKind {A : Type 0} (read : List ℕ → Result A Reason) (text : A → List ℕ) (good : A → Bool) : Type 0 where
   pub spelled : (field : List ℕ) (x : A) → read field ≡ Ok x → (field ≡ text x) × (good x ≡ true)
   pub again : (x : A) → good x ≡ true → read (text x) ≡ Ok x
-  pub plain : (x : A) → good x ≡ true → no_space (text x) ≡ true
+  pub plain : (x : A) → good x ≡ true → is_plain (text x) ≡ true
 
 -- ---- what is kept
 
@@ -40,7 +44,7 @@ kept_ok test reason (Some y) x e =
 pub kept_again : {A : Type 0} (test : A → Bool) (reason : Reason) (found : Option A) (x : A) → found ≡ Some x → test x ≡ true → kept test reason found ≡ Ok x
 kept_again test reason found x is good = ap (kept test reason) is ∙ cond-true (test x) (Ok x) (Err reason) good
 
--- ---- texts without a space
+-- ---- texts without a space and a line feed
 
 -- what holds of each byte of a kind holds of each byte of a text of that kind
 all_so : (p q : ℕ → Bool) → ((b : ℕ) → p b ≡ true → q b ≡ true) → (text : List ℕ) → list_all p text ≡ true → list_all q text ≡ true
@@ -49,9 +53,19 @@ all_so p q h (b ∷ bytes) e =
     let parts = and_parts (p b) (list_all p bytes) e in
     and_from _ _ (h b parts.0) (all_so p q h bytes parts.1)
 
--- a text of bytes of which a space is none
-pub all_plain : (p : ℕ → Bool) → p 32 ≡ false → (text : List ℕ) → list_all p text ≡ true → no_space text ≡ true
-all_plain p other text all = all_so p (λ b. not (b == 32)) (λ b is. ap not (ne_eqb b 32 (λ e. let both : true ≡ false = sym is ∙ (ap p e ∙ other) in cc))) text all
+-- a byte that is not of a kind is no byte of that kind
+other_byte : (p : ℕ → Bool) (at b : ℕ) → p at ≡ false → p b ≡ true → not (b == at) ≡ true
+other_byte p at b other is = ap not (ne_eqb b at (λ e. let both : true ≡ false = sym is ∙ (ap p e ∙ other) in cc))
+
+-- a text of bytes of which a space and a line feed are none
+pub all_plain : (p : ℕ → Bool) → p 32 ≡ false → p 10 ≡ false → (text : List ℕ) → list_all p text ≡ true → is_plain text ≡ true
+all_plain p space feed text all = all_so p (λ b. not (b == 32) && not (b == 10)) (λ b is. and_from _ _ (other_byte p 32 b space is) (other_byte p 10 b feed is)) text all
+
+pub plain_no_space : (text : List ℕ) → is_plain text ≡ true → no_space text ≡ true
+plain_no_space text h = all_so (λ b. not (b == 32) && not (b == 10)) (λ b. not (b == 32)) (λ b is. (and_parts (not (b == 32)) (not (b == 10)) is).0) text h
+
+pub plain_no_feed : (text : List ℕ) → is_plain text ≡ true → list_all (λ b. not (b == 10)) text ≡ true
+plain_no_feed text h = all_so (λ b. not (b == 32) && not (b == 10)) (λ b. not (b == 10)) (λ b is. (and_parts (not (b == 32)) (not (b == 10)) is).1) text h
 
 -- the digits of a number
 all_digits : (base : ℕ) (is_digit : ℕ → Bool) (text : List ℕ) (n : ℕ) → number_of base is_digit text ≡ Some n → list_all is_digit text ≡ true
@@ -61,20 +75,20 @@ all_digits base is_digit text n e =
     let shape = and_parts (nat_lt 0 (length text) && list_all is_digit text) (length text == 1 || not (slice_index text 0 == 48)) tests.0 in
     (and_parts (nat_lt 0 (length text)) (list_all is_digit text) shape.0).1
 
-dec_again : (n : ℕ) → n < 2 ^ 64 → dec (dec_text n) ≡ Some n
+pub dec_again : (n : ℕ) → n < 2 ^ 64 → dec (dec_text n) ≡ Some n
 dec_again n h = read_back 10 is_decimal_digit decimal_base n h
 
-dec_plain : (n : ℕ) → n < 2 ^ 64 → no_space (dec_text n) ≡ true
-dec_plain n h = all_plain is_decimal_digit refl (dec_text n) (all_digits 10 is_decimal_digit (dec_text n) n (dec_again n h))
+pub dec_plain : (n : ℕ) → n < 2 ^ 64 → is_plain (dec_text n) ≡ true
+dec_plain n h = all_plain is_decimal_digit refl refl (dec_text n) (all_digits 10 is_decimal_digit (dec_text n) n (dec_again n h))
 
-dec_spelled : (text : List ℕ) (n : ℕ) → dec text ≡ Some n → text ≡ dec_text n
+pub dec_spelled : (text : List ℕ) (n : ℕ) → dec text ≡ Some n → text ≡ dec_text n
 dec_spelled text n e = one_spelling 10 is_decimal_digit decimal_base text n e
 
-hex_plain : (n : ℕ) → n < 2 ^ 64 → no_space (hex_text n) ≡ true
-hex_plain n h = all_plain is_hex_digit refl (drop 2 (hex_text n)) (all_digits 16 is_hex_digit (drop 2 (hex_text n)) n (hex_read_back n h))
+hex_plain : (n : ℕ) → n < 2 ^ 64 → is_plain (hex_text n) ≡ true
+hex_plain n h = all_plain is_hex_digit refl refl (drop 2 (hex_text n)) (all_digits 16 is_hex_digit (drop 2 (hex_text n)) n (hex_read_back n h))
 
 -- a number that was read is below 2^64
-number_small : (base : ℕ) (is_digit : ℕ → Bool) (text : List ℕ) (n : ℕ) → number_of base is_digit text ≡ Some n → nat_lt n (2 ^ 64) ≡ true
+pub number_small : (base : ℕ) (is_digit : ℕ → Bool) (text : List ℕ) (n : ℕ) → number_of base is_digit text ≡ Some n → nat_lt n (2 ^ 64) ≡ true
 number_small base is_digit text n e =
     let found = cond_some (are_digits is_digit text && nat_lt (digits_value base text) (2 ^ 64)) (digits_value base text) n e in
     subst (λ m. nat_lt m (2 ^ 64) ≡ true) found.1 (and_parts (are_digits is_digit text) (nat_lt (digits_value base text) (2 ^ 64)) found.0).1
@@ -159,5 +173,5 @@ unfolding name_of
 names = record {
   spelled = λ field x e. let found = kept_ok is_id BadName (Some field) x e in (let is : field ≡ x = cc in is, found.1);
   again = λ x good. kept_again is_id BadName (Some x) x refl good;
-  plain = λ x good. all_plain is_id_byte refl x (and_parts (nat_le 1 (length x) && nat_le (length x) 32) (list_all is_id_byte x) good).1;
+  plain = λ x good. all_plain is_id_byte refl refl x (and_parts (nat_le 1 (length x) && nat_le (length x) 32) (list_all is_id_byte x) good).1;
 }

@@ -24,5 +24,5 @@ puts = record {
   again = λ x good.
       let parts = and_parts (is_put x) (are_bytes x) good in
       kept_again is_put BadHex (bytes_of (pairs x)) x (pairs_read_back x (byte_at x parts.1) (some_bytes x parts.0)) parts.0;
-  plain = λ x good. all_plain is_hex_digit refl (pairs x) (pairs_digits x (and_parts (is_put x) (are_bytes x) good).1);
+  plain = λ x good. all_plain is_hex_digit refl refl (pairs x) (pairs_digits x (and_parts (is_put x) (are_bytes x) good).1);
 }

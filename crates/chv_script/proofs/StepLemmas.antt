@@ -14,7 +14,7 @@ pub next_same : {A B : Type 0} (r : Result A Reason) (f g : A → Result B Reaso
 next_same (Ok x) f g h = h x
 next_same (Err e) f g h = refl
 
-between : (before all : List (List ℕ)) (passed : List (List ℕ)) (text : List ℕ) (behind : List (List ℕ)) → SameLabels before (labels_of passed) → SameLabels all (labels_of (passed ++ text ∷ behind)) → checked before all text ≡ line_between passed text behind
+pub between : (before all : List (List ℕ)) (passed : List (List ℕ)) (text : List ℕ) (behind : List (List ℕ)) → SameLabels before (labels_of passed) → SameLabels all (labels_of (passed ++ text ∷ behind)) → checked before all text ≡ line_between passed text behind
 between before all passed text behind b w =
     next_same (line_of text) _ _ (λ l. ap (λ fault. unless fault l) (fault_same before (labels_of passed) all (labels_of (passed ++ text ∷ behind)) b w l))
 

@@ -31,8 +31,8 @@ fn label_behind<'a>(word: &[u8], name: &'a [u8]) -> Option<&'a str>
     if is_word(word, "at") { id(name) } else { None }
 }
 
-/// Adds the label that a line is, where it is one.
-pub(crate) fn add_label(
+/// Adds the label that a line is, where it is one, to the labels of the lines before.
+pub fn add_label(
     alloc: Global,
     labels: &mut HashSet<Text>,
     text: &[u8],

@@ -55,8 +55,8 @@ impl Reading {
     }
 }
 
-// The instruction that a line is, or why it fails, behind lines of these labels and among lines of those.
-fn checked_line(
+/// The instruction that a line is, or why it fails, behind lines of these labels and among lines of those.
+pub fn checked_line(
     alloc: Global,
     before: &HashSet<Text>,
     all: &HashSet<Text>,

@@ -1,9 +1,8 @@
-use Rattle.std.proofs.Common.{◌∙◌, ap}
-use Rattle.chv_defs_scene.specs.ScenarioText.{top_word, at_space}
-use Rattle.chv_scene.proofs.ReadingLemmas.{opens_outside}
+use Rattle.chv_defs_scene.specs.ScenarioLines.{lines_of}
+use Rattle.chv_scene.proofs.ReadingLemmas.{top_goes}
 use Rattle.chv_scene.proofs.reading.Reading.take_outside.Goals as goal
 
-pub returns-in-None : goal.returns-in-None
-returns-in-None c =
-    opens_outside c.args.self.now.ended c.begin.new.self.ended c.args.self.now.asked c.begin.new.self.asked c.args.text.now c.requires
-    (c.in-None.ensures ∙ ap (λ k. top_word k (at_space c.args.text.now).0 (at_space c.args.text.now).1) c.len.ensures) c.begin.ensures.ended c.begin.ensures.asked
+pub returns-in_ok-begin-in-Ok : goal.returns-in_ok-begin-in-Ok
+returns-in_ok-begin-in-Ok c =
+    top_goes c.args.self.now c.begin.new.self c.passed.result c.args.text.now c.top_line.result c.in-Ok.opens (lines_of c.args.behind.now) c.requires
+    c.passed.ensures c.top_line.ensures c.in-Ok.is c.in_ok-begin-in-Ok.ensures
