@@ -194,6 +194,7 @@ in-run map addr len run o some fits e = by (nat_le ((addr - run.addr) % block_by
   where
     first : addr + 0 + 1 ≤ 2 ^ 64
     first = omega arith
+
     by : (b : Bool) → nat_le ((addr - run.addr) % block_bytes + len) block_bytes ≡ b → IsPlacedByBytes map addr len
     by true q =
         let room : (addr - run.addr) % block_bytes + len ≤ block_bytes = grind (arith, nat_tests) in
@@ -243,6 +244,7 @@ in-window map addr len slot clear some fits none e = by (nat_le (addr - window_s
   where
     first : addr + 0 + 1 ≤ 2 ^ 64
     first = omega arith
+
     by : (b : Bool) → nat_le (addr - window_start slot + len) window_bytes ≡ b → IsPlacedByBytes map addr len
     by true q =
         let room : addr - window_start slot + len ≤ window_bytes = grind (arith, nat_tests) in
@@ -308,10 +310,13 @@ in-neither map addr len o some fits none outside = by (no_ram map.runs addr (add
   where
     start : addr + 0 ≡ addr
     start = omega arith
+
     none-first : run_at map.runs (addr + 0) ≡ None
     none-first = ap (run_at map.runs) start ∙ none
+
     no-first : slot_at (addr + 0) ≡ None
     no-first = ap slot_at start ∙ outside
+
     by : (b : Bool) → (no_ram map.runs addr (addr + len) && no_window addr (addr + len)) ≡ b → IsPlacedByBytes map addr len
     by true q =
         let parts = and-parts (no_ram map.runs addr (addr + len)) (no_window addr (addr + len)) q in
