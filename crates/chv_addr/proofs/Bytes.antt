@@ -1,7 +1,7 @@
 -- The place of bytes is decided by its single bytes.
-use Rattle.std.proofs.Common.{◌≡◌, ℕ, ◌+◌, ◌-◌, ◌*◌, ◌/◌, ◌%◌, ◌<◌, ◌≤◌, ◌^◌, Bool, true, false, List, [], ◌∷◌, Option, None, Some, refl, sym, ◌∙◌, ap, subst, arith, suc, inl, inr}
-use Rattle.std.specs.Prelude.{◌==◌, ◌&&◌, find, nat_le, nat_lt, All}
-use Rattle.std.specs.List.{AllPass, list_all}
+use Rattle.std.proofs.Common.{◌≡◌, ℕ, ◌+◌, ◌-◌, ◌/◌, ◌%◌, ◌<◌, ◌≤◌, ◌^◌, Bool, true, false, List, [], ◌∷◌, Option, None, Some, refl, sym, ◌∙◌, ap, subst, arith, inl, inr}
+use Rattle.std.specs.Prelude.{◌==◌, ◌&&◌, nat_le, nat_lt, All}
+use Rattle.std.specs.List.{AllPass}
 use Rattle.std.proofs.lemmas.Bool.{cases_lt}
 use Rattle.std.proofs.lemmas.Bool.Decides.{nat_tests}
 use Rattle.std.proofs.lemmas.List.Elements.{All-cons, All-tail}
@@ -10,9 +10,9 @@ use Rattle.chv_defs_base.specs.Sizes.{block_bytes}
 use Rattle.chv_addr.specs.declared.place.Place.{Place}
 use Rattle.chv_addr.specs.declared.place.Place.TheVariants.{Ram, Bar, Hole, Crosses}
 use Rattle.chv_addr.specs.declared.run.Run.{Run}
-use Rattle.chv_addr.specs.AddressMap.{AddressMap, AreInOrder, bare_place, holds, hole_end, hole_start, is_apart, is_clear, map_of, no_ram, no_window, place_by, place_of, run_at, run_bytes, slot_at, slots, window_bytes, window_start}
+use Rattle.chv_addr.specs.AddressMap.{AddressMap, AreInOrder, holds, hole_end, hole_start, is_clear, map_of, no_ram, no_window, place_by, place_of, run_at, run_bytes, slot_at, slots, window_bytes, window_start}
 use Rattle.chv_addr.specs.Layout.{BytesLieTogether, IsPlacedByBytes}
-use Rattle.chv_addr.proofs.Apart.{apart-all, apart-none, apart-part, holds-above, holds-below, holds-in, holds-parts}
+use Rattle.chv_addr.proofs.Apart.{apart-all, apart-none, apart-part, holds-above, holds-in, holds-parts}
 use Rattle.chv_addr.proofs.RunSearch.{find-passes}
 use Rattle.chv_addr.proofs.Slots.{slot_at-above, slot_at-below, slot_at-inside}
 use Rattle.chv_addr.proofs.Zones.{map-clear, map-order}

@@ -3,6 +3,7 @@ pub mod Bytes
 pub mod InOrder
 pub mod Limits
 pub mod MapLaws
+pub mod Regions
 pub mod RunSearch
 pub mod Slots
 pub mod Zones

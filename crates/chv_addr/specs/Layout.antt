@@ -3,7 +3,6 @@ use Rattle.std.specs.Prelude.{◌≡◌, ◌↔◌, ℕ, ◌+◌, ◌*◌, ◌%�
 use Rattle.chv_defs_api.specs.declared.config.ZoneConfig.{ZoneConfig}
 use Rattle.chv_defs_base.specs.Sizes.{block_bytes, blocks_in}
 use Rattle.chv_addr.specs.declared.region.Region.{Region}
-use Rattle.chv_addr.specs.declared.place.Place.{Place}
 use Rattle.chv_addr.specs.declared.place.Place.TheVariants.{Ram, Bar, Hole}
 use Rattle.chv_addr.specs.AddressMap.{AddressMap, map_of, place_of}
 

@@ -1,4 +1,4 @@
-use Rattle.chv_addr.proofs.InOrder.{plug-in-regions}
+use Rattle.chv_addr.proofs.Regions.{plug-in-regions}
 use Rattle.chv_addr.proofs.laws.plug_blocks_lie_in_regions.Goals as goal
 
 pub returns : goal.returns
