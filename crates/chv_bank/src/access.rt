@@ -5,7 +5,7 @@ ghost use Rattle.chv_defs_memory.specs.declared.bank.BankReply.TheVariants as re
 ghost use Rattle.chv_defs_memory.specs.declared.bank.BankEntry.{BankEntry};
 ghost use Rattle.chv_defs_memory.specs.BankState.{blocks_in, blocks_of, is_owner_call, payload_of, IsCall, IsInBlock, IsInZone};
 ghost use Rattle.chv_defs_memory.specs.LastByte.{last_bytes};
-ghost use Rattle.chv_defs_memory.specs.LegalBank.{access_reply, done_reply, first_closed, first_sealed};
+ghost use Rattle.chv_defs_memory.specs.LegalBank.{access_reply, first_closed, first_sealed};
 ghost use Rattle.chv_defs_memory.specs.BankBook.{is_unpin, places_of};
 ghost use Rattle.chv_bank.specs.Caches.{IsFormed, IsStateAfter, Steps};
 ghost use Rattle.chv_bank.specs.CallerPins.{total};
@@ -62,24 +62,9 @@ pub fn reply_to(
     requires call { IsCall bank call.now }
     ensures { IfOk result (λ r. (before : List BankEntry) → IsStateAfter bank before state.now → r ≡ access_reply bank before call.now) }
 {
-    match find_closed(state, bank, call) {
-        Some(block) => Ok(BankReply::Fault(block)),
-        None => reply_done(alloc, state, bank, call),
+    if let Some(block) = find_closed(state, bank, call) {
+        return Ok(BankReply::Fault(block));
     }
-}
-
-// The reply to an access that is done.
-fn reply_done(
-    alloc: Global,
-    state: &State,
-    bank: u8,
-    call: &BankCall,
-) -> Result<BankReply, AllocError>
-    requires formed { IsFormed state.now }
-    requires access { is_owner_call call.now ≡ false }
-    requires call { IsCall bank call.now }
-    ensures { IfOk result (λ r. (before : List BankEntry) → IsStateAfter bank before state.now → r ≡ done_reply bank before call.now) }
-{
     match call {
         BankCall::Read { block, offset, len } => {
             let bytes = read(alloc, state, bank, *block, *offset, *len)?;

@@ -1,22 +1,31 @@
 -- The first rule that is broken, and the first number that passes a test.
-use Rattle.std.proofs.Common.{◌≡◌, ℕ, ◌+◌, ◌<◌, ◌≤◌, Bool, true, false, List, [], ◌∷◌, ◌++◌, Option, None, Some, refl, arith, zero, suc, subst, inl, inr}
+use Rattle.std.proofs.Common.{◌≡◌, ℕ, ◌+◌, ◌<◌, ◌≤◌, Bool, true, false, List, [], ◌∷◌, ◌++◌, Option, None, Some, refl, ap, ◌∙◌, arith, zero, suc, subst, inl, inr}
 use Rattle.std.specs.Prelude.{find, cond, MatchOption}
 use Rattle.std.specs.List.{range_with_len}
+use Rattle.std.specs.Option.{option_or}
 use Rattle.std.proofs.lemmas.Bool.{cases_order}
 use Rattle.chv_defs_base.specs.declared.rule.Rule.{Rule}
 use Rattle.chv_defs_api.specs.ConfigRules.{first_broken}
 
+-- rules behind others: the first that is broken is one of those before, or else one of those behind
+pub first_broken-append : (xs ys : List (Bool × Rule)) → first_broken (xs ++ ys) ≡ option_or (first_broken xs) (first_broken ys)
+first_broken-append [] ys = refl
+first_broken-append ((true, rule) ∷ xs) ys = refl
+first_broken-append ((false, rule) ∷ xs) ys = first_broken-append xs ys
+
 -- a rule broken in the first rows is the answer
 pub first_broken-some : (xs ys : List (Bool × Rule)) (rule : Rule) → first_broken xs ≡ Some rule → first_broken (xs ++ ys) ≡ Some rule
-first_broken-some [] ys rule h = cc
-first_broken-some ((true, r) ∷ xs) ys rule h = h
-first_broken-some ((false, r) ∷ xs) ys rule h = first_broken-some xs ys rule h
+first_broken-some xs ys rule h = first_broken-append xs ys ∙ ap (λ found. option_or found (first_broken ys)) h
 
 -- where no rule of the first rows is broken, the others decide
 pub first_broken-none : (xs ys : List (Bool × Rule)) → first_broken xs ≡ None → first_broken (xs ++ ys) ≡ first_broken ys
-first_broken-none [] ys h = refl
-first_broken-none ((true, r) ∷ xs) ys h = cc
-first_broken-none ((false, r) ∷ xs) ys h = first_broken-none xs ys h
+first_broken-none xs ys h = first_broken-append xs ys ∙ ap (λ found. option_or found (first_broken ys)) h
+
+-- where none is broken, none of either is
+pub first_broken-parts : (xs ys : List (Bool × Rule)) → first_broken (xs ++ ys) ≡ None → (first_broken xs ≡ None) × (first_broken ys ≡ None)
+first_broken-parts [] ys e = (refl, e)
+first_broken-parts ((true, rule) ∷ xs) ys e = cc
+first_broken-parts ((false, rule) ∷ xs) ys e = first_broken-parts xs ys e
 
 -- what the first of n numbers from a on that passes a test is
 abbrev pub IsFirstPassing : (ℕ → Bool) → ℕ → ℕ → Option ℕ → Type 0

@@ -14,6 +14,7 @@ use Rattle.chv_defs_api.specs.declared.config.VmConfig.{VmConfig}
 use Rattle.chv_defs_api.specs.declared.context.DeviceKind.{DeviceKind}
 use Rattle.chv_defs_api.specs.declared.context.DeviceKind.TheVariants.{Disk, Memory}
 use Rattle.chv_defs_api.specs.ConfigRules.{has_text, has_twice, lowest_free, default_id, given_ids, with_ids, id_beside, memory_device_id, memory_device_ids, memory_devices, disk_devices, grows, first_broken, cpu_rules, memory_rules, device_rules, disk_unknown, disk_twice, device_id_bad, device_id_twice, queue_shape, too_many_devices, verdict, ids_of, zones_in_effect, devices_of, device_ids, checked_of}
+use Rattle.chv_config.proofs.Firsts.{first_broken-parts}
 use Rattle.chv_config.proofs.Twice.{bytes_eq_comm}
 use Rattle.chv_config.proofs.DefaultIds.{lowest_free-is}
 
@@ -102,11 +103,6 @@ pub broken_none : (b : Bool) (rule : Rule) (rest : List (Bool × Rule)) → firs
 broken_none true rule rest h = cc
 broken_none false rule rest h = (refl, h)
 
-pub first_broken-rest : (xs ys : List (Bool × Rule)) → first_broken (xs ++ ys) ≡ None → first_broken ys ≡ None
-first_broken-rest [] ys h = h
-first_broken-rest ((true, rule) ∷ xs) ys h = cc
-first_broken-rest ((false, rule) ∷ xs) ys h = first_broken-rest xs ys h
-
 -- the rules on disks and devices, kept
 pub record KeepsDeviceRules (names : List (List ℕ)) (config : VmConfig) : Type 0 where
   pub known : disk_unknown names config ≡ false
@@ -118,7 +114,7 @@ pub record KeepsDeviceRules (names : List (List ℕ)) (config : VmConfig) : Type
 
 pub keeps_device_rules : (names : List (List ℕ)) (config : VmConfig) → verdict names config ≡ None → KeepsDeviceRules names config
 keeps_device_rules names config h =
-    let all : first_broken (device_rules names config) ≡ None = first_broken-rest (cpu_rules config ++ memory_rules config) (device_rules names config) h in
+    let all : first_broken (device_rules names config) ≡ None = (first_broken-parts (cpu_rules config ++ memory_rules config) (device_rules names config) h).1 in
     let rules = device_rules names config in
     let a = broken_none (disk_unknown names config) DiskUnknown (drop 1 rules) all in
     let b = broken_none (disk_twice config) DiskTwice (drop 2 rules) a.1 in

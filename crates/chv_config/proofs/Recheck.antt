@@ -20,9 +20,9 @@ use Rattle.chv_defs_api.specs.declared.config.VmConfig.{VmConfig}
 use Rattle.chv_defs_api.specs.ConfigRules.{IsChecked, checked_of, cpu_rules, default_id, device_id_bad, device_id_twice, device_ids, device_rules, disk_name, disk_twice, disk_unknown, first_broken, further_disk_rules, given_ids, grows, has_bad_id, has_odd_queue, has_text, has_twice, id_beside, ids_of, is_unknown, lowest_free, memory_device_id, memory_device_ids, memory_rules, queue_shape, too_many_devices, unless_refused, verdict, with_disk, with_id, with_ids, zones_in_effect}
 use Rattle.chv_config.proofs.DefaultIds.{lowest_free-is}
 use Rattle.chv_config.proofs.Fewer.{ids-filter, length-filter-le, list_all-filter, list_any-filter, names-filter}
-use Rattle.chv_config.proofs.Firsts.{first_broken-none}
+use Rattle.chv_config.proofs.Firsts.{first_broken-none, first_broken-parts}
 use Rattle.chv_config.proofs.GoodIds.{good_id-with_id, good_ids-with_ids}
-use Rattle.chv_config.proofs.Kept.{KeepsDeviceRules, broken_none, devices_are_distinct, first_broken-rest, keeps_device_rules, with_ids-set}
+use Rattle.chv_config.proofs.Kept.{KeepsDeviceRules, broken_none, devices_are_distinct, keeps_device_rules, with_ids-set}
 use Rattle.chv_config.proofs.Twice.{has_twice-none, known_disks}
 
 -- What holds of a checked configuration: the zones in effect stand beside it, each disk has its id, and it breaks no rule,
@@ -39,11 +39,6 @@ pub record KeepsRules (now : Checked) : Type 0 where
   pub few : too_many_devices now.config ≡ false
 
 -- ---- a checked configuration has them
-
-first_broken-front : (xs ys : List (Bool × Rule)) → first_broken (xs ++ ys) ≡ None → first_broken xs ≡ None
-first_broken-front [] ys none = refl
-first_broken-front ((true, rule) ∷ xs) ys none = cc
-first_broken-front ((false, rule) ∷ xs) ys none = first_broken-front xs ys none
 
 names-with_ids : (ids : List (List ℕ)) (disks : List DiskConfig) → map disk_name (with_ids ids disks) ≡ map disk_name disks
 names-with_ids ids [] = refl
@@ -76,12 +71,12 @@ KeepsRules-checked_of names config none =
     let zones = zones_in_effect config.memory in
     let ids = ids_of zones config.disks in
     let rules : KeepsDeviceRules names config = keeps_device_rules names config none in
-    let later : first_broken (memory_rules config ++ device_rules names config) ≡ None = first_broken-rest (cpu_rules config) (memory_rules config ++ device_rules names config) none in
+    let parts = first_broken-parts (cpu_rules config) (memory_rules config ++ device_rules names config) none in
     record {
       in_effect = refl;
       has_ids = with_ids-set ids config.disks;
-      cpus = first_broken-front (cpu_rules config) (memory_rules config ++ device_rules names config) none;
-      memory = first_broken-front (memory_rules config) (device_rules names config) later;
+      cpus = parts.0;
+      memory = (first_broken-parts (memory_rules config) (device_rules names config) parts.1).0;
       names_once = ap has_twice (names-with_ids ids config.disks) ∙ rules.names_once;
       good_ids = good_ids-with_ids ids config.disks (few_ids zones config.disks rules.few) rules.good_ids;
       ids_once = devices_are_distinct config rules.ids_once rules.few;

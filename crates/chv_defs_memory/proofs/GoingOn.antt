@@ -1,18 +1,14 @@
--- What a history says behind what lent contexts did, and behind one more entry: which blocks are open or sealed, whether the bank
--- is frozen, and what the owner called for.
-use Rattle.std.proofs.Common.{◌≡◌, ℕ, ◌==◌, Bool, true, false, List, [], ◌∷◌, ◌++◌, Option, None, Some, refl, sym, ◌∙◌, ap, arith}
-use Rattle.std.specs.Prelude.{◌&&◌, not, nat_lt, map, filter, unwrap_or}
+-- What a history says behind what lent contexts did (which blocks are open), and behind one more entry (which blocks are open or
+-- sealed, and whether the bank is frozen).
+use Rattle.std.proofs.Common.{◌≡◌, ℕ, ◌==◌, Bool, true, false, List, [], ◌∷◌, ◌++◌, Option, None, Some, refl, sym, ◌∙◌, ap}
+use Rattle.std.specs.Prelude.{◌&&◌, not, nat_lt, unwrap_or}
 use Rattle.std.specs.List.{list_all, list_any}
-use Rattle.std.proofs.lemmas.Bool.Decides.{nat_tests}
-use Rattle.std.proofs.lemmas.List.{append-nil, map-append}
-use Rattle.std.proofs.lemmas.List.Elements.{filter-append}
 use Rattle.chv_defs_memory.specs.declared.bank.BankCall.{BankCall}
 use Rattle.chv_defs_memory.specs.declared.bank.BankCall.TheVariants as call
 use Rattle.chv_defs_memory.specs.declared.bank.BankReply.{BankReply}
 use Rattle.chv_defs_memory.specs.declared.bank.BankEntry.{BankEntry}
 use Rattle.chv_defs_memory.specs.BankState.{is_frozen, is_open, is_owner_call, is_sealed, later, latest, says_frozen, says_open, says_sealed}
 use Rattle.chv_defs_memory.specs.BankBook.{with_entry}
-use Rattle.chv_defs_memory.specs.MadeCalls.{owned}
 use Rattle.chv_defs_memory.specs.Zones.{is_of, AreOf}
 
 -- ---- truths of tests
@@ -60,13 +56,6 @@ said-before : {A : Type 0} (says : BankEntry → Option A) → ((e : BankEntry) 
 said-before says silent lent h others of =
     latest-append says h others ∙ ap (later (latest says h)) (nothing-said says silent lent others of)
 
-frozen-silent : (c : BankCall) → is_owner_call c ≡ false → says_frozen c ≡ None
-frozen-silent (call.Read block offset len) other = refl
-frozen-silent (call.Write block offset bytes) other = refl
-frozen-silent (call.Pin number span) other = refl
-frozen-silent (call.Unpin number) other = refl
-frozen-silent c other = absurd (cc other)
-
 open-silent : (bank block : ℕ) (c : BankCall) (r : BankReply) → is_owner_call c ≡ false → says_open bank block c r ≡ None
 open-silent bank block (call.Read b offset len) r other = refl
 open-silent bank block (call.Write b offset bytes) r other = refl
@@ -74,42 +63,10 @@ open-silent bank block (call.Pin number span) r other = refl
 open-silent bank block (call.Unpin number) r other = refl
 open-silent bank block c r other = absurd (cc other)
 
-sealed-silent : (bank block : ℕ) (c : BankCall) (r : BankReply) → is_owner_call c ≡ false → says_sealed bank block c r ≡ None
-sealed-silent bank block (call.Read b offset len) r other = refl
-sealed-silent bank block (call.Write b offset bytes) r other = refl
-sealed-silent bank block (call.Pin number span) r other = refl
-sealed-silent bank block (call.Unpin number) r other = refl
-sealed-silent bank block c r other = absurd (cc other)
-
--- whether a bank is frozen, and which blocks are open and sealed, lent contexts do not change
-pub frozen-goes : (lent : List ℕ) (h others : List BankEntry) → AreOf lent others → is_frozen (h ++ others) ≡ is_frozen h
-frozen-goes lent h others of = ap (λ o. unwrap_or o false) (said-before (λ e. says_frozen e.call) (λ e other. frozen-silent e.call other) lent h others of)
-
+-- lent contexts do not change which blocks are open
 pub open-goes : (lent : List ℕ) (bank : ℕ) (h others : List BankEntry) → AreOf lent others → (block : ℕ) → is_open bank (h ++ others) block ≡ is_open bank h block
 open-goes lent bank h others of block =
     ap (λ o. unwrap_or o false) (said-before (λ e. says_open bank block e.call e.reply) (λ e other. open-silent bank block e.call e.reply other) lent h others of)
-
-pub sealed-goes : (lent : List ℕ) (bank : ℕ) (h others : List BankEntry) → AreOf lent others → (block : ℕ) → is_sealed bank (h ++ others) block ≡ is_sealed bank h block
-sealed-goes lent bank h others of block =
-    ap (λ o. unwrap_or o false) (said-before (λ e. says_sealed bank block e.call e.reply) (λ e other. sealed-silent bank block e.call e.reply other) lent h others of)
-
--- what they did is no call of the owner
-above-none : (n : ℕ) → nat_lt 0 n ≡ true → (n == 0) ≡ false
-above-none n e = grind (arith, nat_tests)
-
-owned-none : (lent : List ℕ) (others : List BankEntry) → AreOf lent others → owned others ≡ []
-owned-none lent [] of = refl
-owned-none lent (e ∷ es) of =
-    let parts = both (is_of lent e) (list_all (is_of lent) es) of in
-    rw (above-none e.caller (of-parts lent e parts.0).0) (owned-none lent es parts.1)
-
--- nor do they change which calls are the owner's
-pub owned-goes : (lent : List ℕ) (h others : List BankEntry) → AreOf lent others → owned (h ++ others) ≡ owned h
-owned-goes lent h others of =
-    let own : BankEntry → Bool = λ e. e.caller == 0 in
-    let called : BankEntry → BankCall = λ e. e.call in
-    ap (map called) (filter-append own h others) ∙ map-append called (filter own h) (filter own others)
-    ∙ ap (λ calls. owned h ++ calls) (owned-none lent others of) ∙ append-nil (owned h)
 
 -- ---- behind one more entry
 

@@ -14,7 +14,7 @@ use Rattle.chv_session.specs.Moment.{Moment}
 use Rattle.chv_session.specs.Step.{Answers, state_behind, ComesFrom}
 use Rattle.chv_session.specs.Laws.{Runs}
 use Rattle.chv_session.proofs.OpenLemmas.{open_start, open_takes, open_answers, open_same, no_more}
-use Rattle.chv_session.proofs.TakingLemmas.{gains_join}
+use Rattle.chv_io.proofs.Gained.{gains_join}
 
 -- where a session stands, with what it asked, replied and made: it is open; or it leaves, and ends so
 abbrev pub StandsAs : State → List ℕ → List ℕ → List Answer → List ℕ → Type 0

@@ -5,6 +5,7 @@ use Rattle.std.proofs.lemmas.List.{append-nil, append_cancel_left, length-take-l
 use Rattle.std.proofs.Math.Seq.{drop-append_seam}
 use Rattle.std.proofs.lemmas.List.Folds.{concat-append}
 use Rattle.chv_io.specs.Outside.{Takes, Gains, Loses}
+use Rattle.chv_io.proofs.Gained.{gains_join, loses_join}
 use Rattle.chv_io.specs.Links.{Gives, Fills, GivesMost}
 use Rattle.chv_defs_api.specs.Requests.{IsShort}
 use Rattle.chv_defs_api.specs.SessionBytes.{AreTaken, AreGiven, asks_for}
@@ -151,26 +152,6 @@ given_where_told_join (Some most) (Some left) (Some after) count first next lose
     (subst (λ l. AreGiven most l (count + length (concat first)) next) (sym (ap (drop (length (concat first))) loses ∙ drop-append_seam (concat first) after)) b)
 given_where_told_join (Some most) None left_after count first next loses a b = tt
 given_where_told_join None left left_after count first next loses a b = tt
-
-none_loses : (b c : Option (List ℕ)) (ys : List ℕ) → b ≡ None → Loses b c ys → c ≡ None
-none_loses None c ys same second = second
-none_loses (Some b) c ys same second = absurd (cc same)
-
-loses_join : (a b c : Option (List ℕ)) (xs ys : List ℕ) → Loses a b xs → Loses b c ys → Loses a c (xs ++ ys)
-loses_join None b c xs ys first second = none_loses b c ys first second
-loses_join (Some a) None c xs ys first second = absurd first
-loses_join (Some a) (Some b) None xs ys first second = absurd second
-loses_join (Some a) (Some b) (Some c) xs ys first second = first ∙ ap (λ l. xs ++ l) second ∙ sym (append_assoc xs ys c)
-
-none_gains : (b c : Option (List ℕ)) (ys : List ℕ) → b ≡ None → Gains b c ys → c ≡ None
-none_gains None c ys same second = second
-none_gains (Some b) c ys same second = absurd (cc same)
-
-pub gains_join : (a b c : Option (List ℕ)) (xs ys : List ℕ) → Gains a b xs → Gains b c ys → Gains a c (xs ++ ys)
-gains_join None b c xs ys first second = none_gains b c ys first second
-gains_join (Some a) None c xs ys first second = absurd first
-gains_join (Some a) (Some b) None xs ys first second = absurd second
-gains_join (Some a) (Some b) (Some c) xs ys first second = second ∙ ap (λ l. l ++ ys) first ∙ append_assoc a xs ys
 
 pub fed_join : (a b c r s t : List ℕ) → HasFed a b r s → HasFed b c s t → HasFed a c r t
 fed_join a b c r s t first second = (

@@ -175,6 +175,7 @@ says_scene shelf before after scene status.Done is reports =
       scenario = is.scenario;
       scheduled = reports.1;
       one_each = (scheduled_of_sessions shelf scene.sessions reports.0 reports.1).one_each;
+      numbered = (scheduled_of_sessions shelf scene.sessions reports.0 reports.1).numbered;
       legal = reports.2;
       output = reports.3;
     }
