@@ -8,9 +8,6 @@ use Rattle.chv_addr.specs.AddressMap.{holds, is_apart}
 
 -- ---- one interval
 
-pub holds-below : (start bytes addr : ℕ) → addr < start → holds start bytes addr ≡ false
-holds-below start bytes addr h = grind (arith, nat_tests)
-
 pub holds-above : (start bytes addr : ℕ) → start + bytes ≤ addr → holds start bytes addr ≡ false
 holds-above start bytes addr h = grind (arith, nat_tests)
 
