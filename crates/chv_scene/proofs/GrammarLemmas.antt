@@ -1,5 +1,5 @@
 -- What is read is a scenario.
-use Rattle.std.proofs.Common.{◌≡◌, ℕ, ◌+◌, ◌<◌, ◌≤◌, ◌==◌, ◌&&◌, not, Bool, true, false, List, [], ◌∷◌, ◌++◌, length, map, flat_map, codes, Option, None, Some, Result, Ok, Err, IfOk, refl, sym, ◌∙◌, ap, ap₂, subst, append_assoc, append-nil, length-append, arith}
+use Rattle.std.proofs.Common.{◌≡◌, ℕ, ◌+◌, ◌<◌, ◌≤◌, ◌==◌, ◌&&◌, not, Bool, true, false, List, [], ◌∷◌, ◌++◌, length, flat_map, codes, None, Some, Result, Ok, Err, IfOk, refl, sym, ◌∙◌, ap, ap₂, subst, append_assoc, append-nil, length-append, arith}
 use Rattle.std.specs.List.{list_all, AllByRecursion}
 use Rattle.std.proofs.lemmas.Bool.{and_parts, and_from, ne_eqb}
 use Rattle.chv_defs_base.specs.declared.rule.Reason.{Reason}
@@ -7,11 +7,10 @@ use Rattle.chv_defs_scene.specs.declared.scene.Asked.{Asked}
 use Rattle.chv_defs_scene.specs.declared.scene.OrderStep.{OrderStep}
 use Rattle.chv_defs_scene.specs.declared.scene.Line.{Line as Instruction}
 use Rattle.chv_defs_scene.specs.declared.scene.Scene.{Scene}
-use Rattle.chv_defs_scene.specs.declared.scene.VcpuSection.{VcpuSection}
 use Rattle.chv_defs_scene.specs.ScenarioLines.{Line, lines_of, Part, Has, Ends, Before, Opening, OpensVcpu, OpensSession, OpensOrder, nothing_before, is_early, most_lines, most_steps, session_line, order_line, script_line, script_lines, top_line}
 use Rattle.chv_defs_scene.specs.ScenarioText.{Fault, Place, Outside, InScript, InSession, InOrder, of_scene, with_request, with_session, with_step, with_order, with_instruction, with_script, with_numbers, section, section_part, top_part, read_lines, read_scenario, empty_scene, is_request, is_step, IsSection, Ascend, IsOrder, IsScenario}
 use Rattle.chv_defs_scene.specs.SceneText.{vcpu_section, request_line, session_section, step_line, order_section, scene_text}
-use Rattle.chv_defs_scene.specs.ScriptReading.{◌>>=◌, IsScript, read_behind, read_script, line_between, at_line}
+use Rattle.chv_defs_scene.specs.ScriptReading.{◌>>=◌, IsScript, read_behind, line_between, at_line}
 use Rattle.chv_defs_scene.specs.ScriptText.{line_text}
 use Rattle.chv_script.proofs.GrammarLemmas.{read_is_script}
 use Rattle.chv_script.proofs.ShapeLemmas.{bind_goes}
@@ -21,7 +20,7 @@ use Rattle.chv_scene.proofs.SpellingLemmas.{with_feed, lines_text, lines_of_text
 use Rattle.chv_scene.proofs.RequestLemmas.{no_feed, feedless, lines_feedless, is_good, line_good}
 use Rattle.chv_scene.proofs.OpeningLemmas.{opening_text, MayOpen, IsOpening, top_opens}
 use Rattle.chv_scene.proofs.OrderLemmas.{order_line_is}
-use Rattle.chv_scene.proofs.ScriptLemmas.{Room, at_most_is, IsInstructed, line_instructed, lines_on, script_ended}
+use Rattle.chv_scene.proofs.ScriptLemmas.{Room, line_instructed, lines_on, script_ended}
 
 -- ---- what is known of what is read
 

@@ -1,11 +1,11 @@
 -- What is known of a line that opens a section.
-use Rattle.std.proofs.Common.{◌≡◌, ℕ, ◌<◌, ◌≤◌, ◌&&◌, not, nat_lt, nat_le, Bool, true, false, cond, List, ◌∷◌, ◌++◌, codes, Option, None, Some, Result, Ok, Err, refl, sym, ◌∙◌, ap, ap₂, subst, arith}
+use Rattle.std.proofs.Common.{◌≡◌, ℕ, ◌<◌, ◌≤◌, ◌&&◌, not, nat_lt, nat_le, Bool, true, false, cond, List, ◌∷◌, ◌++◌, codes, Option, None, Some, Result, Ok, Err, refl, sym, ap, ap₂, subst}
 use Rattle.std.specs.Str.{bytes_eq}
 use Rattle.std.proofs.lemmas.Bool.{and_parts, ltb-true, leb-true}
 use Rattle.chv_defs_base.specs.Numbers.{dec, dec_text}
 use Rattle.chv_defs_base.specs.declared.rule.Reason.{Reason}
 use Rattle.chv_defs_base.specs.declared.rule.Reason.TheVariants.{UnknownWord, FieldCount, BadNumber, OutOfOrder, TooMany}
-use Rattle.chv_defs_scene.specs.ScenarioLines.{Line, at_space, has_space, Before, Opening, OpensVcpu, OpensSession, OpensOrder, in_order, session_opening, order_opening, is_early, ranged, vcpu_numbers, vcpu_fields, vcpu_opening, disk_reason, top_word, top_line}
+use Rattle.chv_defs_scene.specs.ScenarioLines.{at_space, has_space, Before, Opening, OpensVcpu, OpensSession, OpensOrder, in_order, session_opening, order_opening, is_early, ranged, vcpu_numbers, vcpu_fields, vcpu_opening, disk_reason, top_word, top_line}
 use Rattle.chv_defs_scene.specs.ScriptText.{field}
 use Rattle.chv_script.proofs.FieldLemmas.{not_is}
 use Rattle.chv_script.proofs.KindLemmas.{dec_spelled}

@@ -1,13 +1,12 @@
 -- A step of the order that is read is spelled as it is, and can stand in a scenario.
-use Rattle.std.proofs.Common.{◌≡◌, ℕ, ◌^◌, ◌==◌, nat_lt, Bool, true, false, cond, List, [], ◌∷◌, ◌++◌, codes, Option, None, Some, Result, Ok, Err, refl, sym, ◌∙◌, ap, subst}
+use Rattle.std.proofs.Common.{◌≡◌, ℕ, ◌^◌, nat_lt, Bool, true, false, List, ◌++◌, codes, Option, None, Some, Ok, Err, refl, sym, ◌∙◌, ap, subst}
 use Rattle.std.specs.Str.{bytes_eq}
 use Rattle.std.proofs.lemmas.Slice.Eq.{bytes_eq-Decides}
 use Rattle.chv_defs_base.specs.Numbers.{is_decimal_digit, dec, dec_text}
-use Rattle.chv_defs_base.specs.declared.rule.Reason.{Reason}
 use Rattle.chv_defs_base.specs.declared.rule.Reason.TheVariants.{UnknownWord, FieldCount}
 use Rattle.chv_defs_scene.specs.declared.scene.OrderStep.{OrderStep}
 use Rattle.chv_defs_scene.specs.declared.scene.OrderStep.TheVariants as step
-use Rattle.chv_defs_scene.specs.ScenarioLines.{Line, at_space, has_space, Part, Has, Ends, end_line, numbered, number_line, queue_line, order_word, most_steps, order_line, at_most}
+use Rattle.chv_defs_scene.specs.ScenarioLines.{at_space, has_space, Part, Has, end_line, numbered, number_line, queue_line, order_word, most_steps, order_line}
 use Rattle.chv_defs_scene.specs.ScenarioText.{is_step}
 use Rattle.chv_defs_scene.specs.SceneText.{step_line}
 use Rattle.chv_defs_scene.specs.ScriptText.{field}

@@ -1,12 +1,12 @@
 -- How a reading goes on by a line.
-use Rattle.std.proofs.Common.{◌≡◌, ℕ, ◌+◌, ◌<◌, Bool, true, false, List, [], ◌∷◌, ◌++◌, length, map, is_some, Option, None, Some, Result, Ok, Err, refl, sym, ◌∙◌, ap, ap₂, subst, append_assoc, length-append}
+use Rattle.std.proofs.Common.{◌≡◌, ℕ, ◌+◌, Bool, true, false, List, [], ◌∷◌, ◌++◌, length, map, is_some, Option, None, Some, Result, Ok, Err, refl, sym, ◌∙◌, ap, ap₂, subst, append_assoc, length-append}
 use Rattle.chv_defs_base.specs.declared.rule.Reason.{Reason}
 use Rattle.chv_defs_base.specs.declared.rule.Reason.TheVariants.{Unended}
 use Rattle.chv_defs_scene.specs.declared.scene.Asked.{Asked}
 use Rattle.chv_defs_scene.specs.declared.scene.OrderStep.{OrderStep}
 use Rattle.chv_defs_scene.specs.declared.scene.Line.{Line as Instruction}
 use Rattle.chv_defs_scene.specs.declared.scene.Scene.{Scene}
-use Rattle.chv_defs_scene.specs.ScenarioLines.{Line, Part, Has, Ends, Opening, OpensVcpu, OpensSession, OpensOrder, at_space, session_word, order_word, at_most, most_steps, top_word, script_line, script_lines}
+use Rattle.chv_defs_scene.specs.ScenarioLines.{Line, Part, Ends, Opening, OpensVcpu, OpensSession, OpensOrder, at_space, session_word, order_word, at_most, most_steps, top_word, script_lines}
 use Rattle.chv_defs_scene.specs.ScenarioText.{Fault, failed, Outside, InScript, InSession, InOrder, of_scene, with_request, with_session, with_step, with_order, with_instruction, with_script, with_numbers, section, section_part, top_part, read_lines}
 use Rattle.chv_defs_scene.specs.ScriptText.{line_text}
 use Rattle.chv_scene.specs.declared.outside.Passed.{Passed}
@@ -16,7 +16,7 @@ use Rattle.chv_defs_scene.specs.ScriptReading.{labels_of}
 use Rattle.chv_script.specs.Labels.{SameLabels}
 use Rattle.chv_scene.specs.Meanings.{Went, opening, opening_of, before_of}
 use Rattle.chv_scene.specs.Scripts.{spelled, FitsScript, script_part, WentScript, IsOpened}
-use Rattle.chv_scene.specs.Reading.{with_all, nothing_done, with_done, before, before_session, before_order, with_script_lines, read_from, FitsOpen, WentInside, closed, is_outside, resumed, after_line, Fits, StillFits, GoesOn, Opened}
+use Rattle.chv_scene.specs.Reading.{with_all, nothing_done, with_done, before, before_session, before_order, with_script_lines, read_from, FitsOpen, WentInside, closed, is_outside, resumed, Fits, GoesOn, Opened}
 use Rattle.chv_scene.specs.declared.script.OpenScript.{OpenScript}
 use Rattle.chv_scene.specs.declared.reading.Done.{Done}
 use Rattle.chv_scene.specs.declared.reading.Reading.{Reading}

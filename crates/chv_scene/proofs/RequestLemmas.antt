@@ -1,5 +1,5 @@
 -- A request that is read can stand in a scenario.
-use Rattle.std.proofs.Common.{◌≡◌, ℕ, ◌+◌, ◌*◌, ◌==◌, ◌&&◌, not, nat_lt, Bool, true, false, cond, List, [], ◌∷◌, length, codes, Option, None, Some, option_map, Result, Ok, Err, refl, sym, ◌∙◌, ap, subst, arith}
+use Rattle.std.proofs.Common.{◌≡◌, ℕ, ◌+◌, ◌*◌, ◌==◌, ◌&&◌, not, nat_lt, Bool, true, false, cond, List, [], ◌∷◌, length, codes, Option, None, Some, option_map, Ok, Err, refl, sym, ◌∙◌, ap, subst, arith}
 use Rattle.std.specs.Char.{digit_value}
 use Rattle.std.specs.List.{list_all}
 use Rattle.std.specs.Str.{bytes_eq}
@@ -9,7 +9,6 @@ use Rattle.chv_defs_scene.specs.ScenarioLines.{Line, lines_of, onto_line, at_spa
 use Rattle.chv_defs_scene.specs.ScenarioText.{is_request}
 use Rattle.chv_defs_scene.specs.declared.scene.Asked.{Asked}
 use Rattle.chv_defs_scene.specs.declared.scene.Asked.TheVariants as asked
-use Rattle.chv_defs_base.specs.declared.rule.Reason.{Reason}
 use Rattle.chv_defs_base.specs.declared.rule.Reason.TheVariants.{UnknownWord, FieldCount, BadName}
 use Rattle.chv_num.proofs.HexSpelling.{chosen}
 use Rattle.chv_num.proofs.PairBytes.{pairs_are_bytes, in_some}

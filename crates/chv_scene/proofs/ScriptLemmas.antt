@@ -19,8 +19,7 @@ use Rattle.chv_script.proofs.LabelLemmas.{same_next}
 use Rattle.chv_script.proofs.GrammarLemmas.{IsRead, line_read}
 use Rattle.chv_scene.specs.declared.script.OpenScript.{OpenScript}
 use Rattle.chv_scene.proofs.SpellingLemmas.{joined, with_feed, at_space_joined}
-use Rattle.chv_scene.specs.Meanings.{Went}
-use Rattle.chv_scene.specs.Scripts.{checked_word, script_part, spelled, FitsScript, Keeps, WentScript}
+use Rattle.chv_scene.specs.Scripts.{checked_word, script_part, spelled, FitsScript}
 
 -- ---- a word that ends a section
 

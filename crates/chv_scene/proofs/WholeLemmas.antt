@@ -1,27 +1,26 @@
 -- The text of a scenario is read as its scene.
-use Rattle.std.proofs.Common.{◌≡◌, ℕ, ◌+◌, ◌^◌, ◌<◌, ◌≤◌, ◌==◌, ◌&&◌, not, nat_lt, nat_le, Bool, true, false, cond, List, [], ◌∷◌, ◌++◌, length, map, flat_map, codes, Option, None, Some, Result, Ok, Err, refl, sym, ◌∙◌, ap, ap₂, subst, append_assoc, append-nil, length-append, arith}
+use Rattle.std.proofs.Common.{◌≡◌, ℕ, ◌+◌, ◌^◌, ◌<◌, ◌≤◌, ◌==◌, ◌&&◌, not, nat_lt, nat_le, true, false, cond, List, [], ◌∷◌, ◌++◌, length, map, flat_map, codes, Option, None, Some, Ok, Err, refl, sym, ◌∙◌, ap, ap₂, append_assoc, append-nil, length-append, arith}
 use Rattle.std.specs.List.{list_all, AllByRecursion}
 use Rattle.std.specs.Str.{bytes_eq}
 use Rattle.std.proofs.lemmas.Bool.{and_parts, and_from, cond-true, cond-false, lt-ltb, ltb-true, le-leb}
 use Rattle.chv_defs_base.specs.Numbers.{dec, dec_text}
-use Rattle.chv_defs_base.specs.declared.rule.Reason.{Reason}
-use Rattle.chv_defs_base.specs.declared.rule.Reason.TheVariants.{BadNumber, FieldCount, TooMany, OutOfOrder, UnknownWord}
+use Rattle.chv_defs_base.specs.declared.rule.Reason.TheVariants.{BadNumber, FieldCount, TooMany, OutOfOrder}
 use Rattle.chv_defs_scene.specs.declared.scene.Asked.{Asked}
 use Rattle.chv_defs_scene.specs.declared.scene.OrderStep.{OrderStep}
 use Rattle.chv_defs_scene.specs.declared.scene.OrderStep.TheVariants as step
 use Rattle.chv_defs_scene.specs.declared.scene.Line.{Line as Instruction}
 use Rattle.chv_defs_scene.specs.declared.scene.Scene.{Scene}
 use Rattle.chv_defs_scene.specs.declared.scene.VcpuSection.{VcpuSection}
-use Rattle.chv_defs_scene.specs.ScenarioLines.{Line, lines_of, at_space, has_space, Part, Has, Ends, end_line, at_most, Before, Opening, OpensVcpu, OpensSession, OpensOrder, nothing_before, is_early, most_lines, most_steps, is_end, instructed, script_word, script_lines, script_line, numbered, order_word, order_line, session_line, ranged, vcpu_numbers, vcpu_fields, in_order, top_line}
-use Rattle.chv_defs_scene.specs.ScenarioText.{Fault, Outside, InScript, InSession, InOrder, of_scene, with_request, with_session, with_step, with_order, with_instruction, with_script, with_numbers, section, section_part, top_part, read_lines, read_scenario, empty_scene, is_request, is_step, IsSection, Ascend, IsOrder, IsScenario}
+use Rattle.chv_defs_scene.specs.ScenarioLines.{Line, lines_of, at_space, has_space, Has, end_line, at_most, Before, OpensVcpu, OpensSession, OpensOrder, nothing_before, is_early, most_lines, most_steps, is_end, instructed, script_lines, script_line, numbered, order_word, order_line, ranged, vcpu_numbers, vcpu_fields, in_order, top_line}
+use Rattle.chv_defs_scene.specs.ScenarioText.{Outside, InScript, InSession, InOrder, of_scene, with_request, with_session, with_step, with_order, with_instruction, with_script, with_numbers, section, section_part, top_part, read_lines, read_scenario, empty_scene, is_request, is_step, IsSection, Ascend, IsOrder, IsScenario}
 use Rattle.chv_defs_scene.specs.SceneText.{vcpu_section, request_line, session_section, step_line, order_section, scene_text}
-use Rattle.chv_defs_scene.specs.ScriptReading.{is_instruction, line_between, read_behind, read_script, IsScript}
+use Rattle.chv_defs_scene.specs.ScriptReading.{is_instruction, line_between, read_behind}
 use Rattle.chv_defs_scene.specs.ScriptText.{line_text, field}
 use Rattle.chv_script.proofs.GrammarLemmas.{first_read, read_line, script_is_read}
 use Rattle.chv_script.proofs.InstructionLemmas.{line_again, text_no_feed}
 use Rattle.chv_script.proofs.KindLemmas.{dec_again, dec_plain, plain_no_space, plain_no_feed}
 use Rattle.chv_scene.proofs.RequestLemmas.{no_feed}
-use Rattle.chv_scene.proofs.ReadBackLemmas.{first_line, no_space, only_field, first_field, one_field, joined_no_feed, front, front_read, request_lines}
+use Rattle.chv_scene.proofs.ReadBackLemmas.{first_line, no_space, first_field, one_field, joined_no_feed, front_read, request_lines}
 use Rattle.chv_scene.proofs.GrammarLemmas.{body_text, all_requests, instruction_line, section_text}
 use Rattle.chv_scene.proofs.ScriptLemmas.{no_end, instruction_no_end}
 

@@ -1,9 +1,8 @@
 -- What was read so far, and what is read from there on.
-use Rattle.std.specs.Prelude.{◌≡◌, ℕ, ◌+◌, Bool, true, false, List, [], ◌∷◌, ◌++◌, length, is_some, Option, None, Some, Result, Ok, Err}
+use Rattle.std.specs.Prelude.{◌≡◌, ℕ, ◌+◌, Bool, true, false, List, [], ◌∷◌, ◌++◌, length, is_some, Option, None, Some, Result}
 use Rattle.chv_defs_base.specs.declared.rule.Reason.{Reason}
 use Rattle.chv_defs_scene.specs.declared.scene.Asked.{Asked}
 use Rattle.chv_defs_scene.specs.declared.scene.OrderStep.{OrderStep}
-use Rattle.chv_defs_scene.specs.declared.scene.Line.{Line as Instruction}
 use Rattle.chv_defs_scene.specs.declared.scene.Scene.{Scene}
 use Rattle.chv_defs_scene.specs.ScenarioLines.{Line, at_space, Before, session_word, order_word, at_most, most_steps}
 use Rattle.chv_defs_scene.specs.ScenarioText.{Fault, failed, Outside, InScript, InSession, InOrder, of_scene, with_request, with_step, with_instruction, with_numbers, section, read_lines}

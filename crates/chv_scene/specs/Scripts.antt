@@ -1,9 +1,9 @@
 -- A vCPU's section that is open, and what its next line means.
-use Rattle.std.specs.Prelude.{◌≡◌, ℕ, Bool, true, false, if◌then◌else◌, List, [], ◌∷◌, ◌++◌, length, map, codes, Option, Result, Ok, Err}
+use Rattle.std.specs.Prelude.{◌≡◌, ℕ, Bool, true, if◌then◌else◌, List, [], ◌∷◌, ◌++◌, length, map, codes, Option, Result, Ok}
 use Rattle.std.specs.Str.{bytes_eq}
 use Rattle.chv_defs_base.specs.declared.rule.Reason.{Reason}
 use Rattle.chv_defs_scene.specs.declared.scene.Line.{Line as Instruction}
-use Rattle.chv_defs_scene.specs.ScenarioLines.{Line, lines_of, at_space, Part, end_line, at_most, most_lines, instructed, script_lines}
+use Rattle.chv_defs_scene.specs.ScenarioLines.{Line, at_space, Part, end_line, at_most, most_lines, instructed, script_lines}
 use Rattle.chv_defs_scene.specs.ScriptReading.{labels_of}
 use Rattle.chv_defs_scene.specs.ScriptText.{line_text}
 use Rattle.chv_script.specs.Labels.{SameLabels}

@@ -1,4 +1,4 @@
-use Rattle.std.proofs.Common.{◌≡◌, ◌++◌, length}
+use Rattle.std.proofs.Common.{◌++◌, length}
 use Rattle.chv_defs_scene.specs.ScenarioLines.{lines_of, script_lines}
 use Rattle.chv_defs_scene.specs.ScriptReading.{labels_of}
 use Rattle.chv_script.specs.Labels.{SameLabels}
