@@ -1,5 +1,9 @@
+pub mod Apart
+pub mod Bytes
+pub mod InOrder
 pub mod Limits
 pub mod MapLaws
+pub mod Regions
 pub mod RunSearch
 pub mod Slots
 pub mod Zones

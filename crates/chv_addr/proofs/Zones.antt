@@ -57,19 +57,19 @@ with_run-all P run rest here further = by (run.count == 0) refl
 
 -- ---- the hole
 
-past-low : (a : ℕ) → a < hole_start → past_hole a ≡ a
+pub past-low : (a : ℕ) → a < hole_start → past_hole a ≡ a
 past-low a h = let yes : nat_lt a hole_start ≡ true = grind (arith, nat_tests) in rw yes refl
 
-past-high : (a : ℕ) → hole_start ≤ a → past_hole a ≡ a + 0x40000000
+pub past-high : (a : ℕ) → hole_start ≤ a → past_hole a ≡ a + 0x40000000
 past-high a h = let no : nat_lt a hole_start ≡ false = grind (arith, nat_tests) in rw no refl
 
-past-ge : (a : ℕ) → a ≤ past_hole a
+pub past-ge : (a : ℕ) → a ≤ past_hole a
 past-ge a = elim (cases_lt a hole_start) [
   | inl low ↦ omega (arith, past-low a low)
   | inr high ↦ omega (arith, past-high a high)
 ]
 
-past-mono : (a b : ℕ) → a ≤ b → past_hole a ≤ past_hole b
+pub past-mono : (a b : ℕ) → a ≤ b → past_hole a ≤ past_hole b
 past-mono a b h = elim (cases_lt a hole_start) [
   | inl low ↦ omega (arith, past-low a low, past-ge b)
   | inr high ↦
@@ -87,18 +87,18 @@ boot_total zones = sum_by (λ config. blocks_in config.size) zones
 abbrev pub end_of : ℕ → ℕ
 end_of blocks = past_hole (blocks * block_bytes)
 
-low-fits : (before count : ℕ) → 0 < below_hole before count → (end_of before ≤ before * block_bytes) × (before * block_bytes + below_hole before count * block_bytes ≤ end_of (before + below_hole before count)) × (before * block_bytes + below_hole before count * block_bytes ≤ hole_start)
+pub low-fits : (before count : ℕ) → 0 < below_hole before count → (end_of before ≤ before * block_bytes) × (before * block_bytes + below_hole before count * block_bytes ≤ end_of (before + below_hole before count)) × (before * block_bytes + below_hole before count * block_bytes ≤ hole_start)
 low-fits before count some =
     let low : before * block_bytes < hole_start = omega arith in
     (omega (arith, past-low (before * block_bytes) low), omega (arith, past-ge ((before + below_hole before count) * block_bytes)), omega arith)
 
-high-fits : (before count : ℕ) → 0 < count - below_hole before count → (end_of (before + below_hole before count) + (count - below_hole before count) * block_bytes ≤ end_of (before + count)) × (hole_end ≤ end_of (before + below_hole before count))
+pub high-fits : (before count : ℕ) → 0 < count - below_hole before count → (end_of (before + below_hole before count) + (count - below_hole before count) * block_bytes ≤ end_of (before + count)) × (hole_end ≤ end_of (before + below_hole before count))
 high-fits before count some =
     let high : hole_start ≤ (before + below_hole before count) * block_bytes = omega arith in
     let high' : hole_start ≤ (before + count) * block_bytes = omega arith in
     (omega (arith, past-high ((before + below_hole before count) * block_bytes) high, past-high ((before + count) * block_bytes) high'), omega (arith, past-high ((before + below_hole before count) * block_bytes) high))
 
-low-le : (before count : ℕ) → below_hole before count ≤ count
+pub low-le : (before count : ℕ) → below_hole before count ≤ count
 low-le before count = omega arith
 
 pub boot-order : (zone before from : ℕ) (configs : List ZoneConfig) (rest : List Run) → from ≤ end_of before → ((f : ℕ) → f ≤ end_of (before + boot_total configs) → AreInOrder f rest) → AreInOrder from (boot_runs zone before configs ++ rest)

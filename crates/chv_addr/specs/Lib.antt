@@ -1,2 +1,3 @@
 pub mod AddressMap
+pub mod Layout
 pub mod Search

@@ -2,6 +2,7 @@
 ghost use Rattle.std.specs.Prelude.{◌≡◌, ◌+◌, ◌-◌, ◌<◌, ◌≤◌, ◌^◌, List, [], ◌∷◌, ◌++◌, true, false, None, Some, min, IfOk, IfErr, IsOk, OnOk, OnErr, MatchResult, length};
 ghost use Rattle.chv_defs_memory.specs.BankState.{banks, is_owner_call, IsCall};
 ghost use Rattle.chv_defs_memory.specs.LegalBank.{access_reply, IsLegal, OwnerMay};
+ghost use Rattle.chv_defs_base.specs.Sizes.{most_entries, most_payload};
 ghost use Rattle.chv_defs_memory.specs.declared.bank.BankCall.TheVariants as call;
 ghost use Rattle.chv_defs_memory.specs.declared.bank.BankReply.TheVariants as reply;
 ghost use Rattle.chv_defs_memory.specs.declared.bank.Refusal.{Refusal};
@@ -287,10 +288,12 @@ impl Bank {
         (self.zone, self.bank)
     }
 
-    /// The history, which is legal.
+    /// The history, which is legal. With what is reserved it is within the limits of a book.
     pub fn history(&self) -> &[BankEntry]
         ensures value { result.now ≡ self.now.history }
         ensures legal { IsLegal self.now.bank self.now.history }
+        ensures entries { entries_taken self.now ≤ most_entries }
+        ensures bytes { bytes_taken self.now ≤ most_payload }
     {
         self.history.as_slice()
     }

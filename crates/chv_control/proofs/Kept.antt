@@ -1,6 +1,6 @@
 -- A further entry keeps what the type of the control value keeps.
 use Rattle.std.proofs.Common.{◌≡◌, ◌≤◌, ◌+◌, ℕ, Bool, true, false, List, [], ◌∷◌, ◌++◌, if◌then◌else◌, nat_lt, length, None, Some, refl, sym, subst, ◌∙◌, ap, arith, length-append}
-use Rattle.std.specs.Prelude.{◌||◌}
+use Rattle.std.proofs.lemmas.Bool.{or_parts}
 use Rattle.std.proofs.lemmas.Bool.Decides.{nat_tests}
 use Rattle.chv_defs_base.specs.declared.book.BookId.TheVariants.{Control}
 use Rattle.chv_defs_api.specs.declared.control.Goal.TheVariants.{Shutdown, Delete}
@@ -21,10 +21,6 @@ use Rattle.chv_defs_control.specs.ControlStep.{Step}
 use Rattle.chv_defs_control.proofs.Leads.{Leads-push}
 use Rattle.chv_ctl_api.proofs.Kept.{IsWellFormed-after}
 use Rattle.chv_control.specs.Control.{IsKept}
-
-or_parts : (b c : Bool) → b || c ≡ false → (b ≡ false) × (c ≡ false)
-or_parts true c e = cc
-or_parts false c e = (refl, e)
 
 at_most : (a b : ℕ) → nat_lt a b ≡ false → b ≤ a
 at_most a b e = grind (arith, nat_tests)

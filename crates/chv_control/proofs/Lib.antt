@@ -1,6 +1,7 @@
 pub mod Answered
 pub mod Kept
 pub mod KeptBanks
+pub mod OpenBlocks
 pub mod QuietBanks
 pub mod QuietSteps
 pub mod Refusals

@@ -21,7 +21,8 @@ use Rattle.chv_defs_control.specs.declared.machine.Life.TheVariants as life
 use Rattle.chv_defs_control.specs.declared.machine.Machine.{Machine}
 use Rattle.chv_defs_control.specs.ApiStep.{after, is_booted, is_paused, is_running_or_paused, names_of, refusal_of, reply_to, rules_of, with_new_disk, without_disk}
 use Rattle.chv_defs_control.specs.OwnerCalls.{calls_in, calls_where, owner_calls, zones_in, zones_of, IsLeft}
-use Rattle.chv_ctl_api.proofs.Verdicts.{first_broken-parts, none-broken, none-from_done}
+use Rattle.chv_config.proofs.Firsts.{first_broken-parts}
+use Rattle.chv_ctl_api.proofs.Verdicts.{none-broken, none-from_done}
 use Rattle.chv_control.specs.Rest.{IsQuiet}
 use Rattle.chv_control.proofs.QuietBanks.{left-same, quiet-booted, quiet-nowhere, quiet-wiped, shape_calls, wipe_calls, IsQuietSo}
 

@@ -1,3 +1,4 @@
 pub mod Control
+pub mod OpenBlocks
 pub mod Rest
 pub mod Shelf

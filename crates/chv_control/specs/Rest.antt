@@ -1,4 +1,5 @@
--- What holds of the banks between control turns, and what the type of the control value keeps of them.
+-- What holds of the banks between control turns, and what the type of the control value keeps of them. While no machine can be
+-- paused, what is said of one that is has nothing to speak of: no bank is frozen, and so no place of a Thaw is kept.
 use Rattle.std.specs.Prelude.{◌≡◌, ◌&&◌, ℕ, true, false, nat_lt, List, [], is_some, slice_get, Option, None, Some}
 use Rattle.chv_defs_base.specs.Sizes.{blocks_in}
 use Rattle.chv_defs_api.specs.declared.config.ZoneConfig.{ZoneConfig}

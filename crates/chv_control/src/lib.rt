@@ -14,5 +14,5 @@ mod start;
 
 pub use control::Control;
 pub use inner::Inner;
-pub use laws::refusals_change_nothing;
+pub use laws::{open_are_the_boot_blocks, refusals_change_nothing};
 pub use start::Start;

@@ -1,7 +1,8 @@
 -- What a call leaves is well formed.
 use Rattle.std.proofs.Common.{◌≡◌, ◌≤◌, ◌<◌, ◌+◌, ◌*◌, ◌^◌, ◌↔◌, ℕ, Bool, true, false, List, [], ◌∷◌, ◌++◌, length, if◌then◌else◌, nat_lt, ◌==◌, None, Some, Option, refl, subst, arith}
-use Rattle.std.specs.Prelude.{sum_by, not, is_some, unwrap_or, ◌||◌}
+use Rattle.std.specs.Prelude.{sum_by, not, is_some, unwrap_or}
 use Rattle.std.specs.List.{list_any}
+use Rattle.std.proofs.lemmas.Bool.{or_parts}
 use Rattle.std.proofs.lemmas.Bool.Decides.{nat_tests}
 use Rattle.std.proofs.lemmas.List.Sums.{sum_by-cons}
 use Rattle.chv_defs_control.specs.declared.machine.Machine.{Machine}
@@ -26,8 +27,9 @@ use Rattle.chv_defs_control.specs.ControlStep.{MayCall}
 use Rattle.chv_defs_api.specs.ConfigRules.{IsChecked, checked_of, config_rules, first_broken, further_disk_rules, has_zones, own_zone, zones_in_effect, verdict}
 use Rattle.chv_defs_api.specs.DefaultConfig.{default_config}
 use Rattle.chv_config.proofs.Fewer.{length-filter-le}
+use Rattle.chv_config.proofs.Firsts.{first_broken-parts}
 use Rattle.chv_config.proofs.Recheck.{IsChecked-checked_of, IsChecked-filter, IsChecked-parts, IsChecked-with_disk}
-use Rattle.chv_ctl_api.proofs.Verdicts.{first_broken-parts, none-from_done, none-broken}
+use Rattle.chv_ctl_api.proofs.Verdicts.{none-from_done, none-broken}
 
 choose : (P : List ℕ → Type 0) (b c : Bool) (x y z : List ℕ) → (b ≡ true → P x) → (b ≡ false → c ≡ true → P y) → (b ≡ false → c ≡ false → P z) → P (if b then x else (if c then y else z))
 choose P true c x y z p q r = p refl
@@ -42,10 +44,6 @@ AreSessionsAbove-with_number low n (m ∷ ms) all above below =
     (λ e. (above, below, (grind (arith, nat_tests), all.1, all.2)))
     (λ e f. all)
     (λ e f. (all.0, all.1, AreSessionsAbove-with_number m n ms all.2 (grind (arith, nat_tests)) below))
-
-or_parts : (b c : Bool) → b || c ≡ false → (b ≡ false) × (c ≡ false)
-or_parts true c e = cc
-or_parts false c e = (refl, e)
 
 -- zones of at most 64 GiB each
 total-bound : (zones : List ZoneConfig) → list_any (λ (zone : ZoneConfig). nat_lt 68719476736 (zone.size + zone.hotplug)) zones ≡ false → sum_by (λ (zone : ZoneConfig). zone.size) zones ≤ length zones * 68719476736

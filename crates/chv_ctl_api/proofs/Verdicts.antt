@@ -1,5 +1,5 @@
 -- What an answer of the rules says of them, and what a call comes to by them.
-use Rattle.std.proofs.Common.{◌≡◌, Bool, true, false, List, [], ◌∷◌, ◌++◌, Option, None, Some, Result, Ok, Err, refl, sym, subst, ap}
+use Rattle.std.proofs.Common.{◌≡◌, Bool, true, false, List, [], ◌∷◌, Option, None, Some, Result, Ok, Err, refl, sym, subst, ap}
 use Rattle.std.specs.Prelude.{IfOk}
 use Rattle.std.specs.Option.{option_or}
 use Rattle.chv_defs_control.specs.declared.machine.Machine.{Machine}
@@ -13,6 +13,7 @@ use Rattle.chv_defs_api.specs.declared.control.ControlCall.TheVariants as call
 use Rattle.chv_defs_api.specs.declared.control.ControlReply.{ControlReply}
 use Rattle.chv_defs_api.specs.declared.control.ControlReply.TheVariants as reply
 use Rattle.chv_defs_api.specs.ConfigRules.{first_broken, further_disk_rules, unless_refused, verdict}
+use Rattle.chv_config.proofs.Firsts.{first_broken-append}
 use Rattle.chv_defs_control.specs.ApiStep.{has_full_slots, is_booted, names_of, refused_or, reply_to}
 use Rattle.chv_ctl_api.specs.declared.decided.Change.{Change}
 use Rattle.chv_ctl_api.specs.ApiCalls.{disk_rule}
@@ -33,17 +34,6 @@ pub none-broken : (rows : List (Bool × Rule)) → first_broken rows ≡ None �
 none-broken [] e = tt
 none-broken ((true, rule) ∷ rows) e = cc
 none-broken ((false, rule) ∷ rows) e = (refl, none-broken rows e)
-
-pub first_broken-parts : (xs ys : List (Bool × Rule)) → first_broken (xs ++ ys) ≡ None → (first_broken xs ≡ None) × (first_broken ys ≡ None)
-first_broken-parts [] ys e = (refl, e)
-first_broken-parts ((true, rule) ∷ xs) ys e = cc
-first_broken-parts ((false, rule) ∷ xs) ys e = first_broken-parts xs ys e
-
--- rules behind others: the first that is broken is one of those before, or else one of those behind
-pub first_broken-append : (xs ys : List (Bool × Rule)) → first_broken (xs ++ ys) ≡ option_or (first_broken xs) (first_broken ys)
-first_broken-append [] ys = refl
-first_broken-append ((true, rule) ∷ xs) ys = refl
-first_broken-append ((false, rule) ∷ xs) ys = first_broken-append xs ys
 
 -- the answer to a Create, where there is no machine
 pub reply_to-create : (shelf : List OnShelf) (m : Machine) (config : VmConfig) → m.config ≡ None → reply_to shelf m (call.Create config) ≡ refused_or (verdict (names_of shelf) config) reply.Done

@@ -1,5 +1,6 @@
 pub mod CallSteps
 pub mod ChangeLaws
+pub mod ControlPlans
 pub mod OpenBlocks
 pub mod PlanSteps
 pub mod RoomSteps

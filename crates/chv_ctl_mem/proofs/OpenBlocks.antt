@@ -6,7 +6,7 @@ use Rattle.chv_defs_api.specs.declared.control.ControlReply.TheVariants as reply
 use Rattle.chv_defs_api.specs.declared.control.Goal.TheVariants as goal
 use Rattle.chv_defs_base.specs.Sizes.{blocks_in}
 use Rattle.chv_defs_control.specs.ApiStep.{is_paused}
-use Rattle.chv_defs_control.specs.OwnerCalls.{calls_where, BootOpensTheBootBlocks, WipeClosesAll}
+use Rattle.chv_defs_control.specs.OwnerCalls.{calls_where, BootOpensTheBootBlocks, ClosesAll, WipeClosesAll}
 use Rattle.chv_defs_memory.specs.declared.bank.BankCall.{BankCall}
 use Rattle.chv_defs_memory.specs.declared.bank.BankCall.TheVariants as call
 use Rattle.chv_defs_memory.specs.declared.bank.BankReply.{BankReply}
@@ -46,7 +46,15 @@ boot-opens lent m config zone bank block before after here made =
     open-still lent bank block (with_entry (before ++ calls.0) 0 (call.Shape (blocks_in config.size)) bank_reply.Done) after calls.2
     ∙ decided bank block (before ++ calls.0) (call.Shape (blocks_in config.size)) bank_reply.Done (nat_lt block (blocks_in config.size)) refl
 
-pub wipe-closes : WipeClosesAll
-wipe-closes lent m config zone bank block before after here made =
+shutdown-closes : ClosesAll goal.Shutdown
+shutdown-closes lent m config zone bank block before after here made =
+    wiped (is_paused m.life) lent bank block before after
+    (subst (λ o. AreMade lent bank before (calls_where o m zone bank (control.Begin goal.Shutdown) reply.Done) after) here made)
+
+delete-closes : ClosesAll goal.Delete
+delete-closes lent m config zone bank block before after here made =
     wiped (is_paused m.life) lent bank block before after
     (subst (λ o. AreMade lent bank before (calls_where o m zone bank (control.Begin goal.Delete) reply.Done) after) here made)
+
+pub wipe-closes : WipeClosesAll
+wipe-closes = (shutdown-closes, delete-closes)

@@ -107,10 +107,6 @@ pub record IsReady (frozen : Bool) (places : ℕ) (known : Known) : Type 0 where
   pub entries : known.entries ≡ places
   pub pages : known.pages ≡ 0
 
--- every bank of the zones below a number
-abbrev pub AreReady : ℕ → Bool → ℕ → (ℕ → ℕ → Known) → Type 0
-AreReady zones frozen places known = (z b : ℕ) → z < zones → b < banks → IsReady frozen places (known z b)
-
 -- ---- room
 
 -- the refusal of room for so many entries and pages in each bank of the zones below a number, where one is due

@@ -6,7 +6,7 @@ pub fn boot_opens_the_boot_blocks()
     ensures { BootOpensTheBootBlocks }
 {}
 
-/// Behind those of a shutdown or a delete no block of a zone in effect is open.
+/// Behind those of a shutdown, and behind those of a delete, no block of a zone in effect is open.
 pub fn wipe_closes_all()
     ensures { WipeClosesAll }
 {}

@@ -1,7 +1,7 @@
 -- Legal traces: what holds of everything that happened in a run, whatever the order in which it happened. So far these are the
 -- traces of runs of sessions, in which no context is ever lent.
-use Rattle.std.specs.Prelude.{◌≡◌, ◌≢◌, ◌≤◌, ◌<◌, ◌⊎◌, ℕ, ◌+◌, ◌==◌, ◌&&◌, Bool, true, List, [], ◌∷◌, length, map, find, Option, None, Some}
-use Rattle.std.specs.List.{AllByRecursion, list_all, range_with_len}
+use Rattle.std.specs.Prelude.{◌≡◌, ◌≢◌, ◌<◌, ◌⊎◌, ℕ, ◌==◌, ◌&&◌, Bool, true, List, [], ◌∷◌, map, find, Option, None, Some}
+use Rattle.std.specs.List.{AllByRecursion, Contains, list_all}
 use Rattle.chv_defs_control.specs.declared.machine.Machine.{Machine}
 use Rattle.chv_defs_api.specs.declared.shelf.OnShelf.{OnShelf}
 use Rattle.chv_defs_api.specs.declared.control.ControlEntry.{ControlEntry}
@@ -14,6 +14,7 @@ use Rattle.chv_defs_control.specs.LegalControl.{IsLegal, answers_by}
 use Rattle.chv_defs_control.specs.OwnerCalls.{IsLinked}
 use Rattle.chv_defs_memory.specs.LegalBank as bank_law
 use Rattle.chv_defs_memory.specs.Zones.{IsBank}
+use Rattle.chv_defs_api.specs.Desks.{IsSession}
 use Rattle.chv_defs_api.specs.SessionBytes.{IsSessionLog}
 
 -- ---- sessions
@@ -29,17 +30,28 @@ MadeItsCalls history session =
 abbrev pub AreInOrder : List ControlEntry → List SessionTrace → Type 0
 AreInOrder history sessions = AllByRecursion (MadeItsCalls history) sessions
 
--- The sessions have the numbers 1, 2 and so on, in order.
+-- the numbers of the sessions that a trace has, in its order
+abbrev pub numbers_of : List SessionTrace → List ℕ
+numbers_of sessions = map (λ (session : SessionTrace). session.session) sessions
+
+-- a session has a lower number than another
+abbrev pub IsLower : SessionTrace → SessionTrace → Type 0
+IsLower a b = a.session < b.session
+
+-- Each of the sessions has a number from 1 to 16, and the numbers ascend, none standing twice. (A session that has no lines is not
+-- among them, so that there may be gaps.)
 abbrev pub AreNumbered : List SessionTrace → Type 0
-AreNumbered sessions = map (λ (session : SessionTrace). session.session) sessions ≡ range_with_len 1 (length sessions)
+AreNumbered [] = Unit {0}
+AreNumbered (session ∷ sessions) = IsSession session.session × AllByRecursion (IsLower session) sessions × AreNumbered sessions
 
--- The caller of an entry is one of so many sessions, by its number.
-abbrev pub IsCallOfOne : ℕ → ControlEntry → Type 0
-IsCallOfOne sessions entry = (1 ≤ entry.caller) × (entry.caller ≤ sessions)
+-- The caller of an entry is one of these sessions, by its number.
+abbrev pub IsCallOfOne : List SessionTrace → ControlEntry → Type 0
+IsCallOfOne sessions entry = Contains (numbers_of sessions) entry.caller
 
--- No entry is another caller's: each is the call of one of the sessions.
+-- No entry is another caller's: each is the call of one of the sessions that the trace has. So a session without lines has made no
+-- call.
 abbrev pub AreCallsOf : List SessionTrace → List ControlEntry → Type 0
-AreCallsOf sessions history = AllByRecursion (IsCallOfOne (length sessions)) history
+AreCallsOf sessions history = AllByRecursion (IsCallOfOne sessions) history
 
 -- ---- banks
 
@@ -80,8 +92,8 @@ Ascend (b ∷ banks) = AllByRecursion (IsBefore b) banks × Ascend banks
 -- ---- the whole
 
 -- A trace is legal, where these disks stand by. The control history is legal; so is that of each bank, and the banks ascend; in
--- each bank the owner's calls are those that the control history asks for, and no others. The sessions are numbered from 1 on;
--- each control entry is the call of one of them, and each of them made its calls in order.
+-- each bank the owner's calls are those that the control history asks for, and no others. The sessions' numbers lie in 1 to 16
+-- and ascend; each control entry is the call of one of them, and each of them made its calls in order.
 pub record IsLegalTrace (shelf : List OnShelf) (trace : Trace) : Type 0 where
   pub machine : Machine
   pub legal : IsLegal shelf trace.control machine

@@ -2,7 +2,8 @@
 -- it is answered, and what it leaves. The calls are those of the Cloud Hypervisor REST API v1; the rules and their order are
 -- this project's own. Not built yet are the boot of a machine with a device (a disk, or a zone that grows), a restore, and the
 -- pause of a machine that runs, its resizing and the adding of a disk to it: where none of their rules holds, they are refused
--- as NotBuilt.
+-- as NotBuilt. No machine can be paused so far, so that what a pause, a resume and a snapshot that are done leave is not written
+-- yet: the catch-all lines of `success_of` and `after` say nothing true of them.
 use Rattle.std.specs.Prelude.{ℕ, ◌+◌, ◌==◌, ◌&&◌, ◌||◌, Bool, true, false, not, nat_le, nat_lt, List, [], ◌∷◌, ◌++◌, length, map, filter, find, Option, Some, None, is_some, unwrap_or, if◌then◌else◌}
 use Rattle.std.specs.Str.{bytes_eq}
 use Rattle.chv_defs_control.specs.declared.machine.Machine.{Machine}

@@ -20,6 +20,7 @@ or_else (Some full) other = Some full
 or_else None other = other
 
 -- The first book that is full for an entry of this machine behind this history, where one is: the control book, where the entry
--- passes one of its limits; or else the lowest bank that has no room for the owner's calls that the entry stands for.
+-- passes one of its limits; or else the lowest bank that has no room for the owner's calls for which it is made before the entry
+-- (`room_calls` of `OwnerCalls`).
 abbrev pub first_full : Machine → List ControlEntry → (ℕ → ℕ → Known) → ControlEntry → Option Full
 first_full m history known entry = or_else (full_at m history entry) (book_in (room_refusal_for m entry.call entry.reply known))

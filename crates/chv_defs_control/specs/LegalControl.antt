@@ -2,7 +2,6 @@
 use Rattle.std.specs.Prelude.{◌≡◌, ◌==◌, ℕ, List, [], ◌∷◌, Bool, true, false, map, filter}
 use Rattle.chv_defs_control.specs.declared.machine.Machine.{Machine}
 use Rattle.chv_defs_api.specs.declared.shelf.OnShelf.{OnShelf}
-use Rattle.chv_defs_api.specs.declared.control.ControlCall.{ControlCall}
 use Rattle.chv_defs_api.specs.declared.control.ControlReply.{ControlReply}
 use Rattle.chv_defs_api.specs.declared.control.ControlReply.TheVariants as reply
 use Rattle.chv_defs_api.specs.declared.control.ControlEntry.{ControlEntry}
@@ -26,10 +25,6 @@ entries_by caller history = filter (λ (e : ControlEntry). e.caller == caller) h
 -- A caller's calls, each with its answer, in order.
 abbrev pub answers_by : ℕ → List ControlEntry → List Answer
 answers_by caller history = map (λ (e : ControlEntry). record { call = e.call; reply = e.reply }) (entries_by caller history)
-
--- A caller's calls, in order.
-abbrev pub calls_by : ℕ → List ControlEntry → List ControlCall
-calls_by caller history = map (λ (e : ControlEntry). e.call) (entries_by caller history)
 
 -- whether an answer is no refusal by rule
 abbrev pub is_accepting : ControlReply → Bool

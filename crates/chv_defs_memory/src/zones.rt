@@ -42,6 +42,8 @@ pub trait Zones<R>: Banked {
         requires unreserved { (bank : ℕ) → bank < banks → (Self.known self.old zone bank).pages ≡ 0 }
         ensures room { IfOk result (λ answer. MakesRoom (Self.lent self.old) (Self.known self.old zone) (Self.known self.new zone) zone entries pages tt answer) }
         ensures err { OnErr result ((bank : ℕ) → bank < banks → OnlySeesMore (Self.lent self.old) (Self.known self.old zone bank) (Self.known self.new zone bank)) }
+        // What is known of each bank of the zone then is a legal history, whatever is answered.
+        ensures legal { (bank : ℕ) → bank < banks → IsLegal bank (Self.known self.new zone bank).history }
         ensures others { OtherZonesStay (Self.known self.old) (Self.known self.new) zone }
         ensures lent { Self.lent self.new ≡ Self.lent self.old }
         ensures books { Self.books self.new ≡ Self.books self.old };
@@ -50,6 +52,8 @@ pub trait Zones<R>: Banked {
     fn give_back(&mut self, rt: R, zone: u8, keep: u32)
         requires zone { zone < most_zones }
         ensures left { (bank : ℕ) → bank < banks → GivesBack (Self.lent self.old) keep (Self.known self.old zone bank) (Self.known self.new zone bank) }
+        // What is known of each bank of the zone then is a legal history.
+        ensures legal { (bank : ℕ) → bank < banks → IsLegal bank (Self.known self.new zone bank).history }
         ensures others { OtherZonesStay (Self.known self.old) (Self.known self.new) zone }
         ensures lent { Self.lent self.new ≡ Self.lent self.old }
         ensures books { Self.books self.new ≡ Self.books self.old };
@@ -75,6 +79,8 @@ pub trait Zones<R>: Banked {
         requires zone { IsBank zone bank }
         ensures pages { IfOk result (λ pages. pages ≡ pages_shown bank (Self.known self.new zone bank).history) }
         ensures seen { OnlySeesMore (Self.lent self.old) (Self.known self.old zone bank) (Self.known self.new zone bank) }
+        // What is known of the bank then is a legal history, whatever is answered.
+        ensures legal { IsLegal bank (Self.known self.new zone bank).history }
         ensures others { OtherBanksStay (Self.known self.old) (Self.known self.new) zone bank }
         ensures lent { Self.lent self.new ≡ Self.lent self.old }
         ensures books { Self.books self.new ≡ Self.books self.old };

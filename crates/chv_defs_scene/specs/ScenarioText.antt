@@ -119,13 +119,13 @@ read_lines Outside before n (line ∷ lines) =
     top_part n before (top_line before line) (λ place now. read_lines place now (n + 1) lines)
 read_lines (InScript script) before n (line ∷ lines) =
     section_part n with_instruction with_script (script_line script line lines)
-        (read_lines (InScript (script ++ line.text ∷ [])) before (n + 1) lines) (read_lines Outside before (n + 1) lines)
+    (read_lines (InScript (script ++ line.text ∷ [])) before (n + 1) lines) (read_lines Outside before (n + 1) lines)
 read_lines InSession before n (line ∷ lines) =
     section_part n with_request with_session (session_line line)
-        (read_lines InSession before (n + 1) lines) (read_lines Outside before (n + 1) lines)
+    (read_lines InSession before (n + 1) lines) (read_lines Outside before (n + 1) lines)
 read_lines (InOrder steps) before n (line ∷ lines) =
     section_part n with_step with_order (order_line steps line)
-        (read_lines (InOrder (steps + 1)) before (n + 1) lines) (read_lines Outside before (n + 1) lines)
+    (read_lines (InOrder (steps + 1)) before (n + 1) lines) (read_lines Outside before (n + 1) lines)
 
 -- The scene that a text is, or its first line that fails, and why.
 abbrev pub read_scenario : List ℕ → Result Scene Fault

@@ -1,5 +1,6 @@
 pub mod Entries
 pub mod KnownBanks
+pub mod NoOthers
 pub mod OwnEntries
 pub mod Refusals
 pub mod SameBanks

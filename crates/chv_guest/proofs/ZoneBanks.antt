@@ -1,16 +1,22 @@
 -- The banks of one zone among all banks.
-use Rattle.std.proofs.Common.{◌≡◌, ◌≢◌, ℕ, ◌+◌, ◌-◌, ◌*◌, ◌<◌, ◌≤◌, ◌⊎◌, inl, inr, ⊎_elim, List, ◌++◌, length, get_or, set, take, drop, map, sym, ap, subst, ◌∙◌, refl, arith}
+use Rattle.std.proofs.Common.{◌≡◌, ◌≢◌, ℕ, ◌+◌, ◌-◌, ◌*◌, ◌<◌, ◌≤◌, ◌%◌, ◌⊎◌, inl, inr, ⊎_elim, Bool, true, false, List, [], ◌∷◌, ◌++◌, length, get_or, set, take, drop, map, sym, ap, subst, ◌∙◌, refl, arith}
+use Rattle.std.specs.Prelude.{◌==◌}
 use Rattle.std.specs.List.{list_all}
 use Rattle.std.proofs.lemmas.Bool.{cases_lt}
+use Rattle.std.proofs.lemmas.Bool.Decides.{nat_tests}
+use Rattle.std.proofs.lemmas.List.Folds.{list_all-append}
 use Rattle.std.proofs.lemmas.Nat.{mul-add-lt, div-mul-add, mod-mul-add}
-use Rattle.std.proofs.lemmas.List.{length-take, length-take-le, length-map, length-drop, length-append, get_or-append_right, get_or_append_left, get_or-map, get_or-take, get_or-drop, get_or_default, get_or-set_same}
+use Rattle.std.proofs.lemmas.List.{length-take, length-take-le, length-map, length-drop, length-append, get_or-append_right, get_or_append_left, get_or-map, get_or-take, get_or-drop, get_or_default, get_or-set_same, get_or-set_other, length-set}
 use Rattle.std.proofs.lemmas.List.FromFn.{length-map-range_with_len, get_or-map-range_with_len}
 use Rattle.std.proofs.Math.Nat.{mul-le-mul_right}
+use Rattle.chv_defs_memory.specs.declared.bank.BankCall.{BankCall}
+use Rattle.chv_defs_memory.specs.declared.bank.BankReply.{BankReply}
 use Rattle.chv_defs_memory.specs.declared.bank.BankEntry.{BankEntry}
-use Rattle.chv_defs_memory.specs.BankState.{banks}
-use Rattle.chv_defs_memory.specs.BankBook.{BankBook, fresh}
+use Rattle.chv_defs_memory.specs.BankState.{banks, is_owner_call}
+use Rattle.chv_defs_memory.specs.BankBook.{with_entry, BankBook, fresh}
+use Rattle.chv_defs_memory.specs.LegalBank.{IsLegal}
 use Rattle.chv_defs_memory.specs.Zones.{most_zones}
-use Rattle.chv_guest.specs.LentBanks.{bank_at, bank_count, change_zone, fresh_at, fresh_banks, is_own, AreAllBanks, IsBankAt}
+use Rattle.chv_guest.specs.LentBanks.{bank_at, bank_count, change_zone, fresh_at, fresh_banks, is_own, known_at, AreAllBanks, IsBankAt}
 
 -- ---- lists, a part of which is changed
 
@@ -86,6 +92,11 @@ zone-known books zone bank all known inside = (at-place books zone bank all know
 pub bank-known : (books : List BankBook) (zone bank : ℕ) → AreAllBanks books → zone < most_zones → bank < banks → (bank_at books zone bank).bank ≡ bank
 bank-known books zone bank all known inside = (at-place books zone bank all known inside).bank ∙ mod-mul-add zone banks bank inside
 
+-- what is known of it is a legal history
+pub legal-known : (books : List BankBook) (zone bank : ℕ) → AreAllBanks books → zone < most_zones → bank < banks → IsLegal bank (known_at books zone bank).history
+legal-known books zone bank all known inside =
+    subst (λ (n : ℕ). IsLegal n (bank_at books zone bank).history) (bank-known books zone bank all known inside) (at-place books zone bank all known inside).legal
+
 -- the bank that was read at its place
 pub bank-read : (books : List BankBook) (zone bank place : ℕ) (b : BankBook) → AreAllBanks books → zone < most_zones → bank < banks → place ≡ zone * banks + bank → b ≡ get_or books place b → b ≡ bank_at books zone bank
 bank-read books zone bank place b all known inside here read =
@@ -96,6 +107,42 @@ pub bank-set : (books : List BankBook) (zone bank place : ℕ) (b : BankBook) �
 bank-set books zone bank place b all known inside here =
     ap (λ (p : ℕ). bank_at (set books p b) zone bank) here
     ∙ get_or-set_same books (zone * banks + bank) b (fresh zone bank) (omega (arith, place-fits zone bank known inside, all.all))
+
+-- ---- a call of the owner is entered
+
+other-place : (i p : ℕ) → (i == p) ≡ false → i ≢ p
+other-place i p e same = grind (arith, nat_tests)
+
+AreAllBanks-set : (books : List BankBook) (p : ℕ) (b : BankBook) → AreAllBanks books → p < bank_count → IsBankAt p b → AreAllBanks (set books p b)
+AreAllBanks-set books p b all fits is = record {
+  all = length-set books p b ∙ all.all;
+  each = λ i low. by i low (i == p) refl;
+}
+  where
+    by : (i : ℕ) → i < bank_count → (v : Bool) → (i == p) ≡ v → IsBankAt i (get_or (set books p b) i (fresh 0 0))
+    by i low true e =
+        let same : p ≡ i = grind (arith, nat_tests) in
+        subst (λ (n : ℕ). IsBankAt n (get_or (set books p b) n (fresh 0 0))) same
+        (subst (λ (x : BankBook). IsBankAt p x) (sym (get_or-set_same books p b (fresh 0 0) (omega (arith, all.all)))) is)
+    by i low false e =
+        subst (λ (x : BankBook). IsBankAt i x) (sym (get_or-set_other books p i b (fresh 0 0) (other-place i p e))) (all.each i low)
+
+own-entered : (history : List BankEntry) (c : BankCall) (r : BankReply) → list_all is_own history ≡ true → is_owner_call c ≡ true → list_all is_own (with_entry history 0 c r) ≡ true
+own-entered history c r all own =
+    list_all-append is_own history (record { caller = 0; call = c; reply = r } ∷ []) ∙ rw (all, own) refl
+
+-- a bank with one more entry of the owner, after which its history is legal, stays the one of its place
+pub AreAllBanks-entered : (books : List BankBook) (zone bank place : ℕ) (c : BankCall) (r : BankReply) (b : BankBook) → AreAllBanks books → zone < most_zones → bank < banks → place ≡ zone * banks + bank → is_owner_call c ≡ true
+    → b.zone ≡ (bank_at books zone bank).zone → b.bank ≡ (bank_at books zone bank).bank → b.history ≡ with_entry (bank_at books zone bank).history 0 c r → IsLegal b.bank b.history → AreAllBanks (set books place b)
+AreAllBanks-entered books zone bank place c r b all known inside here call zone_is bank_is history legal =
+    let at : IsBankAt (zone * banks + bank) (bank_at books zone bank) = at-place books zone bank all known inside in
+    subst (λ (p : ℕ). AreAllBanks (set books p b)) (sym here)
+    (AreAllBanks-set books (zone * banks + bank) b all (place-fits zone bank known inside) (record {
+      zone = zone_is ∙ at.zone;
+      bank = bank_is ∙ at.bank;
+      own = ap (λ (h : List BankEntry). list_all is_own h) history ∙ own-entered (bank_at books zone bank).history c r at.own call;
+      legal = legal;
+    }))
 
 -- ---- a zone is changed
 
@@ -111,6 +158,7 @@ IsBankAt-change place change b keeps here = record {
   zone = keeps.zone b ∙ here.zone;
   bank = keeps.bank b ∙ here.bank;
   own = ap (λ (h : List BankEntry). list_all is_own h) (keeps.history b) ∙ here.own;
+  legal = subst (λ (n : ℕ). IsLegal n (change b).history) (sym (keeps.bank b)) (subst (λ (h : List BankEntry). IsLegal b.bank h) (sym (keeps.history b)) here.legal);
 }
 
 pub bank_at-changed : (books : List BankBook) (zone bank : ℕ) (change : BankBook → BankBook) → AreAllBanks books → zone < most_zones → bank < banks → bank_at (change_zone zone change books) zone bank ≡ change (bank_at books zone bank)
@@ -150,9 +198,12 @@ AreAllBanks-changed books zone change keeps known all =
 
 -- ---- nothing happened yet
 
+nothing-legal : (bank : ℕ) → IsLegal bank []
+nothing-legal bank i e there = cc
+
 pub AreAllBanks-fresh : AreAllBanks fresh_banks
 AreAllBanks-fresh = record {
   all = length-map-range_with_len fresh_at 0 bank_count;
   each = λ place here. subst (λ (b : BankBook). IsBankAt place b) (sym (get_or-map-range_with_len fresh_at 0 bank_count place place (fresh 0 0) here (omega arith)))
-      (record { zone = refl; bank = refl; own = refl });
+      (record { zone = refl; bank = refl; own = refl; legal = nothing-legal (place % banks) });
 }

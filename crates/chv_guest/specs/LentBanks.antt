@@ -4,6 +4,7 @@ use Rattle.std.specs.List.{list_all, range_with_len}
 use Rattle.chv_defs_memory.specs.declared.bank.BankEntry.{BankEntry}
 use Rattle.chv_defs_memory.specs.BankState.{banks, is_owner_call}
 use Rattle.chv_defs_memory.specs.BankBook.{BankBook, fresh}
+use Rattle.chv_defs_memory.specs.LegalBank.{IsLegal}
 use Rattle.chv_defs_memory.specs.Zones.{most_zones, Known}
 
 -- how many banks there are
@@ -45,11 +46,12 @@ known_at books zone bank =
 abbrev pub is_own : BankEntry → Bool
 is_own e = e.caller == 0 && is_owner_call e.call
 
--- a bank is the one of its place, and all its entries are the owner's, as no context was ever lent
+-- a bank is the one of its place, its history is legal, and all its entries are the owner's, as no context was ever lent
 pub record IsBankAt (place : ℕ) (book : BankBook) : Type 0 where
   pub zone : book.zone ≡ place / banks
   pub bank : book.bank ≡ place % banks
   pub own : list_all is_own book.history ≡ true
+  pub legal : IsLegal book.bank book.history
 
 -- these are the banks of all zones, each at its place
 pub record AreAllBanks (books : List BankBook) : Type 0 where

@@ -26,7 +26,8 @@ use Rattle.chv_play.specs.declared.desk.PlayDesk.{PlayDesk}
 use Rattle.chv_play.specs.Desk.{IsAnswered, IsAskedOf, IsEntered, call_of, entry_at, full_for}
 use Rattle.chv_play.proofs.DeskLemmas.{own_entry}
 use Rattle.chv_play.specs.Banks.{IsWhole, PlayedControl, entered_with_banks, traced, zones_behind}
-use Rattle.chv_play.proofs.BankLemmas.{books_are, books_same, first_full_same, known_same}
+use Rattle.chv_guest.proofs.SameBanks.{same_books}
+use Rattle.chv_play.proofs.BankLemmas.{books_are, first_full_same, known_same}
 
 -- a reply is the one that is due, in a book that has room
 has_room : (full : Option Full) (due reply : ControlReply) → Ok reply ≡ unless_full full due → (full ≡ None) × (reply ≡ due)
@@ -83,7 +84,7 @@ pub left_here : {D : Type 0} (old new : PlayedControl D) → new ≡ record old 
     → ((zone bank : ℕ) → IsBank zone bank → known_at new.zones.books zone bank ≡ known_at old.zones.books zone bank) → IsWhole old → IsWhole new → new ≡ old
 left_here {D} old new stays same whole_old whole_new =
     let zones : new.zones ≡ old.zones =
-    ap (λ (books : List BankBook). record new.zones { books = books }) (books_same old.zones.books new.zones.books whole_old.all whole_new.all same)
+    ap (λ (books : List BankBook). record new.zones { books = books }) (same_books new.zones.books old.zones.books whole_new.all whole_old.all same)
     ∙ ap (λ (lent : List ℕ). record old.zones { lent = lent }) (whole_new.home ∙ sym whole_old.home) in
     stays ∙ ap (λ (z : Lent). record old { zones = z }) zones
 

@@ -1,8 +1,7 @@
 -- The banks of the control value and of the schedule are the same, and stay so.
-use Rattle.std.proofs.Common.{◌≡◌, ◌<◌, ℕ, zero, suc, ◌+◌, ◌-◌, ◌*◌, ◌/◌, ◌%◌, ◌==◌, Bool, true, false, cond, List, [], ◌∷◌, ◌++◌, length, map, get_or, slice_get, Option, None, Some, refl, sym, ap, ◌∙◌, arith}
+use Rattle.std.proofs.Common.{◌≡◌, ◌<◌, ℕ, ◌+◌, ◌-◌, ◌/◌, ◌%◌, ◌==◌, Bool, true, false, cond, List, [], ◌∷◌, map, get_or, slice_get, Option, None, Some, refl, sym, ap, ◌∙◌, arith}
 use Rattle.std.specs.Prelude.{◌&&◌, find, if◌then◌else◌}
-use Rattle.std.specs.List.{range_with_len}
-use Rattle.std.proofs.lemmas.List.{append-nil, ext_get_or, get_or-map, get_or_default, length-map}
+use Rattle.std.proofs.lemmas.List.{ext_get_or, get_or-map, get_or_default, length-map}
 use Rattle.chv_defs_api.specs.declared.config.ZoneConfig.{ZoneConfig}
 use Rattle.chv_defs_api.specs.declared.control.ControlEntry.{ControlEntry}
 use Rattle.chv_defs_control.specs.declared.machine.Machine.{Machine}
@@ -10,18 +9,19 @@ use Rattle.chv_defs_control.specs.ControlBook.{full_at}
 use Rattle.chv_defs_control.specs.FullBooks.{book_in, first_full, or_else}
 use Rattle.chv_defs_control.specs.OwnerCalls.{calls_where, owner_calls, zones_of, HaveTheCalls, IsLeft}
 use Rattle.chv_defs_memory.specs.declared.bank.BankCall.{BankCall}
-use Rattle.chv_defs_memory.specs.declared.bank.BankEntry.{BankEntry}
 use Rattle.chv_defs_memory.specs.declared.bank.Refusal.{Refusal}
-use Rattle.chv_defs_memory.specs.BankBook.{BankBook, fresh, owner_reply, with_entry}
+use Rattle.chv_defs_memory.specs.BankBook.{BankBook, fresh}
 use Rattle.chv_defs_memory.specs.BankState.{banks}
-use Rattle.chv_defs_memory.specs.MadeCalls.{at_rest, most_in_zone, pages_wanted, places_wanted, wanted_refusal, with_calls, AreMade, IsAtRest}
+use Rattle.chv_defs_memory.specs.MadeCalls.{at_rest, most_in_zone, pages_wanted, places_wanted, wanted_refusal, with_calls, IsAtRest}
 use Rattle.chv_defs_memory.specs.Zones.{book_of, first_due, most_zones, IsBank, Known}
-use Rattle.chv_defs_memory.proofs.ZoneLaws.{goes-on-none, others-none, sees-none, zone-refusal-same}
+use Rattle.chv_defs_memory.proofs.MadeLaws.{made-none}
+use Rattle.chv_defs_memory.proofs.ZoneLaws.{map-range-same, sees-none, zone-refusal-same}
 use Rattle.chv_defs.specs.declared.trace.BankTrace.{BankTrace}
 use Rattle.chv_defs.specs.LegalTrace.{entries_in, entries_or_none, is_of_bank}
 use Rattle.chv_defs.specs.Schedule.{known_in, with_owner}
 use Rattle.chv_guest.specs.LentBanks.{bank_count, known_at, place_of, AreAllBanks, Lent}
 use Rattle.chv_guest.proofs.Entries.{find_book, is_book_of, or_fresh}
+use Rattle.chv_guest.proofs.SameBanks.{book_at, has_bank}
 use Rattle.chv_play.specs.Banks.{as_trace, book_behind, traced, zones_behind}
 
 books_behind : (m : Machine) (e : ControlEntry) (books : List BankBook) → map (with_owner m e) (map as_trace books) ≡ map as_trace (map (book_behind m e) books)
@@ -60,39 +60,12 @@ entries_known zones zone bank all there =
 
 -- ---- what is left behind an entry
 
--- no context is lent: the calls were made behind all that there was
-pub made_none : (bank : ℕ) (before after : List BankEntry) (calls : List BankCall) → AreMade [] bank before calls after
-    → after ≡ with_calls bank before calls
-made_none bank before after [] made = goes-on-none before after made
-made_none bank before after (c ∷ calls) (others, none, more) =
-    let all : before ++ others ≡ before = ap (λ (es : List BankEntry). before ++ es) (others-none others none) ∙ append-nil before in
-    made_none bank (with_entry (before ++ others) 0 c (owner_reply bank (before ++ others) c)) after calls more
-    ∙ ap (λ (h : List BankEntry). with_calls bank (with_entry h 0 c (owner_reply bank h c)) calls) all
-
 left_none : (config : Option ZoneConfig) (m : Machine) (zone bank : ℕ) (e : ControlEntry) (before after : Known) → IsAtRest before
     → IsLeft config [] bank before (calls_where config m zone bank e.call e.reply) after
     → after ≡ at_rest (with_calls bank before.history (calls_where config m zone bank e.call e.reply))
 left_none None m zone bank e before after rest left = sees-none before after left ∙ rest
 left_none (Some config) m zone bank e before after rest left =
-    left.1 ∙ ap at_rest (made_none bank before.history after.history (calls_where (Some config) m zone bank e.call e.reply) left.0)
-
--- a bank is what is known of it, with its numbers
-book_is : (b : BankBook) (zone bank : ℕ) (known : Known) → b.zone ≡ zone → b.bank ≡ bank
-    → record { history = b.history; entries = b.entries; pages = b.pages } ≡ known → b ≡ book_of zone bank known
-book_is b zone bank known zone_is bank_is known_is =
-    ap (λ (z : ℕ). record b { zone = z }) zone_is ∙ ap (λ (n : ℕ). record b { zone = zone; bank = n }) bank_is
-    ∙ ap (λ (k : Known). book_of zone bank k) known_is
-
--- what holds of all banks at a place
-at_place : (books : List BankBook) (i : ℕ) → AreAllBanks books → i < length books
-    → (get_or books i (fresh 0 0) ≡ book_of (i / banks) (i % banks) (known_at books (i / banks) (i % banks)))
-at_place books i all within =
-    let at = all.each i (omega (arith, within, all.all)) in
-    let place : place_of (i / banks) (i % banks) ≡ i = omega arith in
-    let same : get_or books (place_of (i / banks) (i % banks)) (fresh (i / banks) (i % banks)) ≡ get_or books i (fresh 0 0) =
-    ap (λ n. get_or books n (fresh (i / banks) (i % banks))) place ∙ get_or_default books i (fresh (i / banks) (i % banks)) (fresh 0 0) within in
-    book_is (get_or books i (fresh 0 0)) (i / banks) (i % banks) (known_at books (i / banks) (i % banks)) at.zone at.bank
-    (ap (λ (b : BankBook). record { history = b.history; entries = b.entries; pages = b.pages }) (sym same))
+    left.1 ∙ ap at_rest (made-none bank before.history (calls_where (Some config) m zone bank e.call e.reply) after.history left.0)
 
 -- The banks behind an entry that left them so are the ones that the schedule says.
 pub books_are : (m : Machine) (e : ControlEntry) (old new : List BankBook) → AreAllBanks old → AreAllBanks new
@@ -104,25 +77,18 @@ books_are m e old new all_old all_new rest called =
   where
     one : (i : ℕ) → i < bank_count → get_or new i (fresh 0 0) ≡ get_or (map (book_behind m e) old) i (fresh 0 0)
     one i within =
-        let there : IsBank (i / banks) (i % banks) = (omega (arith, within), omega arith) in
+        let there : IsBank (i / banks) (i % banks) = has_bank i within in
         let left = left_none (slice_get (zones_of m) (i / banks)) m (i / banks) (i % banks) e (known_at old (i / banks) (i % banks))
         (known_at new (i / banks) (i % banks)) (rest (i / banks) (i % banks) there) (called (i / banks) (i % banks) there) in
         let behind : book_behind m e (book_of (i / banks) (i % banks) (known_at old (i / banks) (i % banks)))
         ≡ book_of (i / banks) (i % banks) (at_rest (with_calls (i % banks) (known_at old (i / banks) (i % banks)).history
         (owner_calls m e.call e.reply (i / banks) (i % banks)))) = refl in
-        at_place new i all_new (omega (arith, within, all_new.all))
+        book_at new i all_new within
         ∙ ap (book_of (i / banks) (i % banks)) left ∙ sym behind
         ∙ sym (get_or-map (book_behind m e) old i (fresh 0 0) (fresh 0 0) (omega (arith, within, all_old.all))
-        ∙ ap (book_behind m e) (at_place old i all_old (omega (arith, within, all_old.all))))
+        ∙ ap (book_behind m e) (book_at old i all_old within))
 
 -- ---- the first full book
-
-map_range : {A : Type 0} (f g : ℕ → A) (from count : ℕ) → ((i : ℕ) → i < from + count → f i ≡ g i) → map f (range_with_len from count) ≡ map g (range_with_len from count)
-map_range f g from zero same = refl
-map_range f g from (suc count) same =
-    let here : f from ≡ g from = same from (omega arith) in
-    let rest : map f (range_with_len (from + 1) count) ≡ map g (range_with_len (from + 1) count) = map_range f g (from + 1) count (λ i below. same i (omega arith)) in
-    cc
 
 wanted_same : (zone : ℕ) (known other : ℕ → Known) (calls : ℕ → List BankCall) → ((bank : ℕ) → bank < banks → known bank ≡ other bank)
     → wanted_refusal zone known calls ≡ wanted_refusal zone other calls
@@ -136,7 +102,7 @@ pub first_full_same : (m : Machine) (history : List ControlEntry) (known other :
     → ((zone bank : ℕ) → IsBank zone bank → known zone bank ≡ other zone bank) → first_full m history known e ≡ first_full m history other e
 first_full_same m history known other e same =
     ap (λ (due : List (Option Refusal)). or_else (full_at m history e) (book_in (first_due due)))
-    (map_range (λ zone. wanted_refusal zone (known zone) (owner_calls m e.call e.reply zone)) (λ zone. wanted_refusal zone (other zone) (owner_calls m e.call e.reply zone))
+    (map-range-same (λ zone. wanted_refusal zone (known zone) (owner_calls m e.call e.reply zone)) (λ zone. wanted_refusal zone (other zone) (owner_calls m e.call e.reply zone))
     0 most_zones (λ zone below. wanted_same zone (known zone) (other zone) (owner_calls m e.call e.reply zone) (λ bank within. same zone bank (below, within))))
 
 -- what the schedule knows of the banks is what the owner knows
@@ -144,17 +110,3 @@ pub known_same : (zones : Lent) → AreAllBanks zones.books → ((zone bank : �
     → (zone bank : ℕ) → IsBank zone bank → known_at zones.books zone bank ≡ known_in (traced zones) zone bank
 known_same zones all rest zone bank there =
     rest zone bank there ∙ ap at_rest (sym (entries_known zones zone bank all there))
-
--- ---- nothing is changed
-
--- banks of which the same is known are the same
-pub books_same : (old new : List BankBook) → AreAllBanks old → AreAllBanks new
-    → ((zone bank : ℕ) → IsBank zone bank → known_at new zone bank ≡ known_at old zone bank) → new ≡ old
-books_same old new all_old all_new same =
-    ext_get_or (fresh 0 0) new old (all_new.all ∙ sym all_old.all) (λ i within. one i (omega (arith, within, all_new.all)))
-  where
-    one : (i : ℕ) → i < bank_count → get_or new i (fresh 0 0) ≡ get_or old i (fresh 0 0)
-    one i within =
-        at_place new i all_new (omega (arith, within, all_new.all))
-        ∙ ap (book_of (i / banks) (i % banks)) (same (i / banks) (i % banks) (omega (arith, within), omega arith))
-        ∙ sym (at_place old i all_old (omega (arith, within, all_old.all)))

@@ -1,10 +1,12 @@
 -- Whose calls a trace that is due has: those of its sessions, which are numbered from 1 on, and no others.
-use Rattle.std.proofs.Common.{◌≡◌, ◌≤◌, ℕ, zero, suc, ◌+◌, List, [], ◌∷◌, ◌++◌, length, map, flat_map, slice_get, Option, None, Some, Result, Ok, Err, refl, sym, ap, subst, ◌∙◌, arith}
-use Rattle.std.specs.List.{AllByRecursion, cons_option, enumerate_from, range_with_len}
+use Rattle.std.proofs.Common.{◌≡◌, ◌≤◌, ◌<◌, ℕ, zero, suc, ◌+◌, ◌-◌, List, [], ◌∷◌, ◌++◌, drop, get_or, length, map, flat_map, slice_get, Option, None, Some, Result, Ok, Err, refl, sym, ap, subst, ◌∙◌, arith}
+use Rattle.std.specs.List.{AllByRecursion, Contains, cons_option, enumerate_from, range_with_len}
 use Rattle.std.proofs.lemmas.List.{length-map}
-use Rattle.std.proofs.lemmas.List.FromFn.{length-enumerate_from}
+use Rattle.std.proofs.lemmas.List.Elements.{Contains-get_or}
+use Rattle.std.proofs.lemmas.List.FromFn.{get_or-range_with_len, length-enumerate_from, length-range_with_len}
 use Rattle.chv_defs_base.specs.declared.book.Full.{Full}
 use Rattle.chv_defs_api.specs.declared.control.ControlCall.TheVariants as call
+use Rattle.chv_defs_api.specs.declared.control.ControlEntry.{ControlEntry}
 use Rattle.chv_defs_scene.specs.declared.scene.Asked.{Asked}
 use Rattle.chv_defs_api.specs.declared.shelf.OnShelf.{OnShelf}
 use Rattle.chv_defs.specs.declared.trace.SessionTrace.{SessionTrace}
@@ -12,7 +14,8 @@ use Rattle.chv_defs.specs.declared.trace.Trace.{Trace}
 use Rattle.chv_defs_control.specs.ApiStep.{reply_to}
 use Rattle.chv_defs_api.specs.Routes.{reply_to_call}
 use Rattle.chv_defs.specs.Schedule.{Turn, Answers, Leaves, Visit, Stage, numbered, turn_of, round_of, rounds_of, all_turns, first_stage, entry_of, full_for, with_entry, with_reply, unless_full, after_turn, then_from, after_turns, visit_of, log_of, trace_at, trace_of, stream_of, schedule}
-use Rattle.chv_defs.specs.LegalTrace.{AreNumbered, IsCallOfOne, AreCallsOf}
+use Rattle.chv_defs.specs.LegalTrace.{numbers_of, AreNumbered, IsLower, AreCallsOf}
+use Rattle.chv_play.specs.Played.{AreNumberedFromOne}
 
 -- ---- the turns
 
@@ -60,9 +63,13 @@ turns_of_one visits =
 
 -- ---- what comes of them
 
--- each entry of a stage's history is the call of one of so many sessions
+-- an entry is the call of one of so many sessions
+abbrev IsCallBelow : ℕ → ControlEntry → Type 0
+IsCallBelow sessions entry = (1 ≤ entry.caller) × (entry.caller ≤ sessions)
+
+-- so is each entry of a stage's history
 abbrev AreOfOne : ℕ → Stage → Type 0
-AreOfOne sessions s = AllByRecursion (IsCallOfOne sessions) s.history
+AreOfOne sessions s = AllByRecursion (IsCallBelow sessions) s.history
 
 -- a stage where no book was full
 unless_full_of_one : (sessions : ℕ) (full : Option Full) (s next : Stage) → AreOfOne sessions s → unless_full full s ≡ Ok next → AreOfOne sessions next
@@ -79,10 +86,10 @@ after_turn_of_one shelf sessions s next session (Answers (Err rule) last) one al
 after_turn_of_one shelf sessions s next session (Answers (Ok c) last) one all is =
     unless_full_of_one sessions (full_for shelf s session c)
     (with_reply session (reply_to_call c (reply_to shelf s.machine c) last) (with_entry shelf session c s)) next
-    (all_append (IsCallOfOne sessions) s.history (entry_of shelf s session c ∷ []) all (one, tt)) is
+    (all_append (IsCallBelow sessions) s.history (entry_of shelf s session c ∷ []) all (one, tt)) is
 after_turn_of_one shelf sessions s next session (Leaves how) one all is =
     unless_full_of_one sessions (full_for shelf s session call.Bye) (with_entry shelf session call.Bye s) next
-    (all_append (IsCallOfOne sessions) s.history (entry_of shelf s session call.Bye ∷ []) all (one, tt)) is
+    (all_append (IsCallBelow sessions) s.history (entry_of shelf s session call.Bye ∷ []) all (one, tt)) is
 
 -- what follows a turn, unless a book was full
 then_of_one : (sessions : ℕ) (r : Result Stage Full) (after : Stage → Result Stage Full) (last : Stage)
@@ -116,11 +123,54 @@ one_log_each streams s =
     let visits = map (λ (stream : List ℕ). (stream, visit_of stream)) streams in
     length-map (numbered visits) (log_of s) ∙ length-enumerate_from 1 visits ∙ length-map streams (λ (stream : List ℕ). (stream, visit_of stream))
 
+-- sessions that are numbered without a gap have higher numbers than those before the first
+numbers_above : (low : ℕ) (session : SessionTrace) (sessions : List SessionTrace) → session.session < low
+    → numbers_of sessions ≡ range_with_len low (length sessions) → AllByRecursion (IsLower session) sessions
+numbers_above low session [] lower is = tt
+numbers_above low session (s ∷ ss) lower is =
+    let first : s.session ≡ low = ap (λ (ns : List ℕ). get_or ns 0 0) is in
+    (omega (arith, lower, first), numbers_above (low + 1) session ss (omega (arith, lower)) (ap (drop 1) is))
+
+-- sessions that are numbered without a gap, up to 16, are numbered as those of a legal trace
+numbered_without_gap : (low : ℕ) (sessions : List SessionTrace) → 1 ≤ low → low + length sessions ≤ 17
+    → numbers_of sessions ≡ range_with_len low (length sessions) → AreNumbered sessions
+numbered_without_gap low [] above few is = tt
+numbered_without_gap low (s ∷ ss) above few is =
+    let first : s.session ≡ low = ap (λ (ns : List ℕ). get_or ns 0 0) is in
+    let rest : numbers_of ss ≡ range_with_len (low + 1) (length ss) = ap (drop 1) is in (
+      (omega (arith, above, first), omega (arith, few, first)),
+      numbers_above (low + 1) s ss (omega (arith, first)) rest,
+      numbered_without_gap (low + 1) ss (omega (arith, above)) (omega (arith, few)) rest,
+    )
+
+-- each number from 1 on is among them
+number_is_there : (count number : ℕ) → 1 ≤ number → number ≤ count → Contains (range_with_len 1 count) number
+number_is_there count number low high =
+    let at : number - 1 < length (range_with_len 1 count) = rw (length-range_with_len 1 count) (omega (arith, low, high)) in
+    subst (λ n. Contains (range_with_len 1 count) n)
+    (get_or-range_with_len 1 count (number - 1) 0 (omega (arith, low, high)) ∙ omega (arith, low))
+    (Contains-get_or (range_with_len 1 count) (number - 1) 0 at)
+
+-- so that each of these calls is the call of a session that the trace has
+calls_of_one : (sessions : List SessionTrace) (history : List ControlEntry) → AreNumberedFromOne sessions
+    → AllByRecursion (IsCallBelow (length sessions)) history → AreCallsOf sessions history
+calls_of_one sessions [] is each = tt
+calls_of_one sessions (entry ∷ history) is each = (
+  subst (λ (ns : List ℕ). Contains ns entry.caller) (sym is)
+      (number_is_there (length sessions) entry.caller each.0.0 each.0.1),
+  calls_of_one sessions history is each.1,
+)
+
 -- What a trace that is due says of its sessions and callers.
 pub record IsOfSessions (sessions : ℕ) (trace : Trace) : Type 0 where
-  pub numbers : AreNumbered trace.sessions
+  pub numbered : AreNumberedFromOne trace.sessions
   pub callers : AreCallsOf trace.sessions trace.control
   pub one_each : length trace.sessions ≡ sessions
+
+-- Where they are few, they are numbered as those of a legal trace.
+pub numbers_of_sessions : (sessions : ℕ) (trace : Trace) → sessions ≤ 16 → IsOfSessions sessions trace → AreNumbered trace.sessions
+numbers_of_sessions sessions trace few told =
+    numbered_without_gap 1 trace.sessions (omega arith) (omega (arith, few, told.one_each)) told.numbered
 
 -- the trace of a last stage
 trace_of_sessions : (shelf : List OnShelf) (streams : List (List ℕ)) (r : Result Stage Full) (trace : Trace)
@@ -129,10 +179,12 @@ trace_of_sessions shelf streams (Ok s) trace leads is =
     let visits = map visit_of streams in
     let count : length visits ≡ length (trace_at streams s).sessions = length-map streams visit_of ∙ sym (one_log_each streams s) in
     let all : AreOfOne (length visits) s = after_turns_of_one shelf (length visits) (all_turns (numbered visits)) first_stage s (turns_of_one visits) tt leads in
+    let numbered : AreNumberedFromOne (trace_at streams s).sessions =
+    logs_numbered s 1 (map (λ (stream : List ℕ). (stream, visit_of stream)) streams) in
     let same : trace_at streams s ≡ trace = cc in
     subst (λ (t : Trace). IsOfSessions (length streams) t) same (record {
-      numbers = logs_numbered s 1 (map (λ (stream : List ℕ). (stream, visit_of stream)) streams);
-      callers = subst (λ n. AreOfOne n s) count all;
+      numbered = numbered;
+      callers = calls_of_one (trace_at streams s).sessions s.history numbered (subst (λ n. AreOfOne n s) count all);
       one_each = one_log_each streams s;
     })
 trace_of_sessions shelf streams (Err full) trace leads is = absurd (cc)

@@ -15,3 +15,4 @@ pub mod RoundLoopLemmas
 pub mod PlayedLemmas
 pub mod CallerLemmas
 pub mod TraceLemmas
+pub mod OwnLemmas

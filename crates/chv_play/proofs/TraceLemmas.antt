@@ -1,5 +1,5 @@
 -- The trace that is due is legal.
-use Rattle.std.proofs.Common.{◌≡◌, ℕ, ◌+◌, ◌<◌, ◌/◌, ◌%◌, List, [], ◌∷◌, filter, length, ◌++◌, map, get_or, Option, None, Some, Result, Ok, Err, MatchOption, OnOk, refl, sym, ap, subst, ◌∙◌, arith}
+use Rattle.std.proofs.Common.{◌≡◌, ℕ, ◌+◌, ◌<◌, ◌≤◌, ◌/◌, ◌%◌, List, [], ◌∷◌, filter, length, ◌++◌, map, get_or, Option, None, Some, Result, Ok, Err, MatchOption, OnOk, refl, sym, ap, subst, ◌∙◌, arith}
 use Rattle.std.specs.List.{AllByRecursion, range_with_len}
 use Rattle.std.proofs.lemmas.List.{ext_get_or, get_or-map, length-map}
 use Rattle.chv_defs_api.specs.declared.control.ControlEntry.{ControlEntry}
@@ -31,7 +31,7 @@ use Rattle.chv_control.specs.Shelf.{shelf_of}
 use Rattle.chv_play.specs.Banks.{as_trace, traced, PlayedControl}
 use Rattle.chv_play.specs.Played.{trace_with, AreLegalBanks, Comes, Gives}
 use Rattle.chv_play.proofs.BankLemmas.{entries_known}
-use Rattle.chv_play.proofs.CallerLemmas.{scheduled_of_sessions}
+use Rattle.chv_play.proofs.CallerLemmas.{numbers_of_sessions, scheduled_of_sessions}
 
 -- ---- the banks ascend
 
@@ -70,9 +70,9 @@ legal_banks (b ∷ bs) owners legal = (
 
 pub legal_trace : (shelf : List OnShelf) (sessions : List (List Asked)) (trace : Trace) (machine : Machine) (history : List ControlEntry) (zones : Lent) (logs : List SessionTrace)
     → schedule shelf sessions ≡ Ok trace → trace ≡ trace_with history (traced zones) logs → AreLegalBanks trace.banks → IsLegal shelf history machine
-    → IsLinked history (λ zone bank. (known_at zones.books zone bank).history) → AreAllBanks zones.books → AreInOrder history logs
+    → IsLinked history (λ zone bank. (known_at zones.books zone bank).history) → AreAllBanks zones.books → AreInOrder history logs → length sessions ≤ 16
     → IsLegalTrace shelf trace
-legal_trace shelf sessions trace machine history zones logs due is legal_of legal linked all in_order =
+legal_trace shelf sessions trace machine history zones logs due is legal_of legal linked all in_order few =
     let owners = scheduled_banks shelf sessions trace due in
     let told = scheduled_of_sessions shelf sessions trace due in
     let control : history ≡ trace.control = sym (ap (λ (t : Trace). t.control) is) in
@@ -87,7 +87,7 @@ legal_trace shelf sessions trace machine history zones logs due is legal_of lega
           ap owned (ap (λ (bs : List BankTrace). entries_in bs zone bank) banks_are
           ∙ entries_filter (traced zones) zone bank (traced_ascend zones all) ∙ entries_known zones zone bank all there)
           ∙ linked zone bank there);
-      numbers = told.numbers;
+      numbers = numbers_of_sessions (length sessions) trace few told;
       callers = told.callers;
       in_order = subst (λ (h : List ControlEntry). AreInOrder h trace.sessions) control (subst (λ (ls : List SessionTrace). AreInOrder history ls) logs_are in_order);
     }
@@ -103,16 +103,17 @@ pub comes_legal : {D : Type 0} (count : AnyDisk D → ℕ) (sessions : List (Lis
     (trace : Option Trace) (cause : Option StopCause)
     → Gives (schedule (shelf_of count start.disks) sessions) control (Ok logs) → control.disks ≡ start.disks
     → IsLegal (shelf_of count control.disks) control.history control.machine → IsLinked control.history (λ zone bank. (known_at control.zones.books zone bank).history)
-    → AreAllBanks control.zones.books
+    → AreAllBanks control.zones.books → length sessions ≤ 16
     → MatchOption trace (cause ≡ Some stop.Memory) (λ t. (cause ≡ None) × (t ≡ trace_with control.history (traced control.zones) logs) × AreLegalBanks t.banks)
     → Comes (shelf_of count start.disks) (schedule (shelf_of count start.disks) sessions) trace cause
-comes_legal {D} count sessions start control logs None cause gives disks legal linked all came =
+comes_legal {D} count sessions start control logs None cause gives disks legal linked all few came =
     subst (λ (c : Option StopCause). Comes (shelf_of count start.disks) (schedule (shelf_of count start.disks) sessions) None c) (sym came) tt
-comes_legal {D} count sessions start control logs (Some trace) cause gives disks legal linked all came =
+comes_legal {D} count sessions start control logs (Some trace) cause gives disks legal linked all few came =
     let shelf = shelf_of count start.disks in
     let due : schedule shelf sessions ≡ Ok trace = gives.0 ∙ ap (λ (t : Trace). Ok t) (sym came.1) in
     subst (λ (c : Option StopCause). Comes shelf (schedule shelf sessions) (Some trace) c) (sym came.0) (
       due,
       legal_trace shelf sessions trace control.machine control.history control.zones logs due came.1 came.2
-          (subst (λ disks. IsLegal (shelf_of count disks) control.history control.machine) disks legal) linked all gives.1,
+          (subst (λ disks. IsLegal (shelf_of count disks) control.history control.machine) disks legal) linked all gives.1 few,
+      (scheduled_of_sessions shelf sessions trace due).numbered,
     )

@@ -7,3 +7,4 @@ pub mod Order
 pub mod Round
 pub mod Played
 pub mod Banks
+pub mod OwnStream

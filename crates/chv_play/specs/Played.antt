@@ -1,13 +1,13 @@
 -- What playing sessions comes to.
-use Rattle.std.specs.Prelude.{◌≡◌, true, ℕ, ◌+◌, List, [], ◌∷◌, filter, Option, None, Some, Result, Ok, Err}
-use Rattle.std.specs.List.{AllByRecursion}
+use Rattle.std.specs.Prelude.{◌≡◌, true, ℕ, ◌+◌, List, [], ◌∷◌, filter, length, Option, None, Some, Result, Ok, Err}
+use Rattle.std.specs.List.{AllByRecursion, range_with_len}
 use Rattle.chv_defs_base.specs.declared.book.Full.{Full}
 use Rattle.chv_defs_api.specs.declared.context.StopCause.{StopCause}
 use Rattle.chv_defs_api.specs.declared.context.StopCause.TheVariants as cause
 use Rattle.chv_defs_api.specs.declared.control.ControlEntry.{ControlEntry}
 use Rattle.chv_defs.specs.declared.trace.Trace.{Trace}
 use Rattle.chv_defs_api.specs.declared.shelf.OnShelf.{OnShelf}
-use Rattle.chv_defs.specs.LegalTrace.{AreInOrder, IsLegalTrace}
+use Rattle.chv_defs.specs.LegalTrace.{numbers_of, AreInOrder, IsLegalTrace}
 use Rattle.chv_defs.specs.Schedule.{has_entries}
 use Rattle.chv_defs.specs.declared.trace.BankTrace.{BankTrace}
 use Rattle.chv_defs.specs.declared.trace.SessionTrace.{SessionTrace}
@@ -57,10 +57,14 @@ abbrev pub Gives : {D : Type 0} → Result Trace Full → PlayedControl D → Re
 Gives due control (Ok logs) = (due ≡ Ok (trace_with control.history (traced control.zones) logs)) × AreInOrder control.history logs
 Gives due control (Err full) = due ≡ Err full
 
--- What playing comes to where these disks stand by: the trace that is due, which is legal; the book that is full where that is
--- due; or want of memory.
+-- The sessions have the numbers 1, 2 and so on, in order, none left out.
+abbrev pub AreNumberedFromOne : List SessionTrace → Type 0
+AreNumberedFromOne sessions = numbers_of sessions ≡ range_with_len 1 (length sessions)
+
+-- What playing comes to where these disks stand by: the trace that is due, which is legal, and whose sessions are numbered from 1
+-- on; the book that is full where that is due; or want of memory.
 abbrev pub Comes : List OnShelf → Result Trace Full → Option Trace → Option StopCause → Type 0
-Comes shelf due (Some trace) None = (due ≡ Ok trace) × IsLegalTrace shelf trace
+Comes shelf due (Some trace) None = (due ≡ Ok trace) × IsLegalTrace shelf trace × AreNumberedFromOne trace.sessions
 Comes shelf due None (Some (cause.Full full)) = due ≡ Err full
 Comes shelf due None (Some cause.Memory) = Unit {0}
 Comes shelf due _ _ = ⊥

@@ -32,11 +32,7 @@ fn label_behind<'a>(word: &[u8], name: &'a [u8]) -> Option<&'a str>
 }
 
 /// Adds the label that a line is, where it is one, to the labels of the lines before.
-pub fn add_label(
-    alloc: Global,
-    labels: &mut HashSet<Text>,
-    text: &[u8],
-) -> Result<(), AllocError>
+pub fn add_label(alloc: Global, labels: &mut HashSet<Text>, text: &[u8]) -> Result<(), AllocError>
     ensures { OnOk result (SameLabels labels.new.keys (labels.old.keys ++ labels_of (text.now ∷ []))) }
 {
     if let Some(name) = label(text) {

@@ -15,7 +15,7 @@ use Rattle.chv_session.specs.declared.state.State.TheVariants as state
 use Rattle.chv_session.specs.Moment.{Moment}
 use Rattle.chv_session.specs.Found.{IsFound, Finds}
 use Rattle.chv_session.specs.Response.{HasMadeAlso, StopsIn, BreaksIn, BreaksOn, Responds, IsEnd}
-use Rattle.chv_session.specs.Step.{Hand, hand_between, ComesToEnd, BreaksAt, Breaks}
+use Rattle.chv_session.specs.Step.{Hand, hand_between, ComesToEnd, BreaksAt, Breaks, BreaksAtBye}
 use Rattle.chv_session.proofs.PlannedLemmas.{part_none, Comes}
 use Rattle.chv_session.proofs.StepLemmas.{Turn, finished}
 
@@ -102,4 +102,19 @@ breaks_ending {before} {now} then_of answers refused turn is same =
       replies = breaks.3;
       puts = breaks.4;
       place = inr (inr (breaks.0, now.talk.rest, breaks.2));
+    }
+
+pub closes_ending : {before now : Moment} (then_of : Then) (answers : List Answer) (refused : Option ControlCall)
+    → Turn then_of before now → IsEnd then_of → answers ≡ now.answers → BreaksAtBye before (finished now state.Lost answers refused)
+closes_ending {before} {now} then_of answers refused turn is same =
+    let breaks = end_breaks then_of before now turn.more turn.made turn.comes is in
+    record {
+      more = turn.more;
+      made = turn.made;
+      unsent = breaks.1;
+      rest = now.talk.rest;
+      how = breaks.0;
+      takes = turn.takes;
+      calls = same ∙ turn.calls;
+      comes = breaks.2;
     }

@@ -141,9 +141,9 @@ is_session_where_lost first last after moments is runs loses =
 pub puts_its_replies : PutsItsReplies
 puts_its_replies first last after moments how is runs goes =
     let so_far = runs_from_start first last moments is runs in
-    (so_far.puts, end_puts last.talk.state how first.put last after so_far.made so_far.stands so_far.puts goes)
+    (so_far.puts, end_puts last.talk.state how first.answers first.put last after so_far.made so_far.stands so_far.calls so_far.puts goes)
 
 pub puts_its_replies_where_lost : PutsItsRepliesWhereLost
 puts_its_replies_where_lost first last after moments is runs loses =
     let so_far = runs_from_start first last moments is runs in
-    lost_puts last.talk.state first.put last after so_far.made so_far.stands so_far.puts loses
+    lost_puts last.talk.state first.answers first.put last after so_far.made so_far.stands so_far.calls so_far.puts loses

@@ -1,5 +1,5 @@
 -- What a step that left a session there makes of the call.
-use Rattle.std.proofs.Common.{◌≡◌, false, Result, Ok, Err, IfOk, OnErr, refl, sym, subst}
+use Rattle.std.proofs.Common.{◌≡◌, Bool, false, Result, Ok, Err, IfOk, OnErr, refl, sym, subst}
 use Rattle.std.specs.Prelude.{MatchResult}
 use Rattle.chv_defs_api.specs.Desks.{is_held}
 use Rattle.chv_session.specs.declared.next.Next.{Next}
@@ -9,7 +9,7 @@ use Rattle.chv_session.specs.Talk.{Talk}
 use Rattle.chv_session.specs.Moment.{Moment}
 use Rattle.chv_session.specs.Taking.{Intake}
 use Rattle.chv_session.specs.Wire.{Drains}
-use Rattle.chv_session.specs.Step.{Step, Breaks, IsReady, ComesFrom, ComesTo, LosesFrom, GetsLost, said_at}
+use Rattle.chv_session.specs.Step.{Step, Breaks, IsReady, ComesFrom, ComesTo, LosesFrom, GetsLost, ClosesLost, said_at}
 use Rattle.chv_session.proofs.ReadyLemmas.{step_ready}
 
 -- where the session stands then, and what the call answers
@@ -44,6 +44,18 @@ left_lost {E} {talk} (Err error) result stood before now opened same breaks goes
     (subst (λ (s : State). GetsLost (record before { talk = talk }) (standing now s)) (sym is.0)
     (subst (λ (t : Talk). GetsLost (record before { talk = t }) (standing now state.Lost)) same
     (subst (λ (s : State). LosesFrom s before (standing now state.Lost)) (sym opened) (refl, breaks, goes))))
+
+pub left_closes : {E : Type 0} {talk : Talk} (left : Result State E) (result : Result Next E) (stood : State) (before now : Moment) (closed closed_after : Bool)
+    → before.talk.state ≡ state.Open → before.talk ≡ talk
+    → OnErr left (ClosesLost state.Open before (standing now state.Lost) closed closed_after) → Stands left stood result
+    → OnErr result (ClosesLost talk.state (record before { talk = talk }) (standing now stood) closed closed_after)
+left_closes {E} {talk} (Ok stands) result stood before now closed closed_after opened same closes is =
+    subst (λ (r : Result Next E). OnErr r (ClosesLost talk.state (record before { talk = talk }) (standing now stood) closed closed_after)) (sym is.1) tt
+left_closes {E} {talk} (Err error) result stood before now closed closed_after opened same closes is =
+    subst (λ (r : Result Next E). OnErr r (ClosesLost talk.state (record before { talk = talk }) (standing now stood) closed closed_after)) (sym is.1)
+    (subst (λ (s : State). ClosesLost talk.state (record before { talk = talk }) (standing now s) closed closed_after) (sym is.0)
+    (subst (λ (t : Talk). ClosesLost t.state (record before { talk = t }) (standing now state.Lost) closed closed_after) same
+    (subst (λ (s : State). ClosesLost s before (standing now state.Lost) closed closed_after) (sym opened) closes)))
 
 pub left_ready : {E : Type 0} (left : Result State E) (result : Result Next E) (stood : State) (before now : Moment)
     → IfOk left (λ stands. Step (said_at stands) before (standing now stands)) → Stands left stood result

@@ -3,6 +3,7 @@ use Rattle.std.specs.Prelude.{◌≡◌, ◌⊎◌, ℕ, true, false, List, [], 
 use Rattle.std.specs.List.{AllByRecursion}
 use Rattle.chv_defs_base.specs.declared.rule.Rule.{Rule}
 use Rattle.chv_defs_api.specs.declared.request.Request.{Request}
+use Rattle.chv_defs_api.specs.declared.control.ControlCall.TheVariants as call
 use Rattle.chv_defs_api.specs.declared.session.SessionEnd.{SessionEnd}
 use Rattle.chv_defs_api.specs.declared.session.SessionEnd.TheVariants as end
 use Rattle.chv_defs_api.specs.Desks.{Answer}
@@ -50,37 +51,53 @@ IsSessionWhereLost =
     → (made : List Answer) × (after.answers ≡ first.answers ++ made)
     × IsSessionLog end.Stopped after.talk.asked after.talk.replied made
 
--- These bytes are the reply to what is in front: to a request, or to bytes that a rule refuses.
-abbrev pub IsReplyTo : List ℕ → List ℕ → Type 0
-IsReplyTo rest reply =
-    ((request : Request) × (behind : List ℕ) × (calls : List Answer) × BeginsWith rest request behind × Answered request calls reply)
-    ⊎ ((rule : Rule) × IsBad rest rule × (reply ≡ refusal_bytes rule true))
+-- These bytes are the reply to what is in front, of which these calls were made: to a request, by the answers to its calls;
+-- or to bytes that a rule refuses, which make none.
+abbrev pub IsReplyTo : List ℕ → List Answer → List ℕ → Type 0
+IsReplyTo rest made reply =
+    ((request : Request) × (behind : List ℕ) × BeginsWith rest request behind × Answered request made reply)
+    ⊎ ((rule : Rule) × IsBad rest rule × (made ≡ []) × (reply ≡ refusal_bytes rule true))
 
--- What was put is the replies of the session; or what it asked is requests that were answered and a rest, and behind the
--- replies to these a first part was put of the one reply to what is in front of the rest.
-abbrev pub PutsPart : Option (List ℕ) → Option (List ℕ) → List ℕ → List ℕ → Type 0
-PutsPart before after asked replied =
-    Gains before after replied
-    ⊎ ((calls : List Answer) × (rest : List ℕ) × (unsent : List ℕ) × (between : Option (List ℕ))
-    × IsOpen asked replied calls rest × IsReplyTo rest unsent × Gains before between replied × GainsPart between after unsent)
+-- Of the last reply a first part was put, perhaps none of it. What the session asked is requests and a rest, and the calls
+-- that it made are those of the requests and then those of what is in front of the rest. The replies to the requests
+-- were put whole, and behind them the first part of the reply to what is in front, by the answers that were made to its calls.
+pub record IsCutOff (before after : Option (List ℕ)) (asked replied : List ℕ) (made : List Answer) : Type 0 where
+  pub calls : List Answer
+  pub more : List Answer
+  pub rest : List ℕ
+  pub unsent : List ℕ
+  pub between : Option (List ℕ)
+  pub requests : IsOpen asked replied calls rest
+  pub both : made ≡ calls ++ more
+  pub front : IsReplyTo rest more unsent
+  pub whole : Gains before between replied
+  pub part : GainsPart between after unsent
 
--- What was put at an end: the replies of the session; and at a Fault, and where the run stopped, perhaps a part of one
--- more.
-abbrev pub PutsAt : SessionEnd → Option (List ℕ) → Option (List ℕ) → List ℕ → List ℕ → Type 0
-PutsAt end.Fault before after asked replied = PutsPart before after asked replied
-PutsAt end.Stopped before after asked replied = PutsPart before after asked replied
-PutsAt _ before after asked replied = Gains before after replied
+-- What was put is the replies of the session, which made these calls; or the last reply was cut off.
+abbrev pub PutsPart : Option (List ℕ) → Option (List ℕ) → List ℕ → List ℕ → List Answer → Type 0
+PutsPart before after asked replied made = Gains before after replied ⊎ IsCutOff before after asked replied made
+
+-- What was put at an end, where the session made these calls: the replies of the session. At a Fault, whose Bye is the last
+-- of the calls, and where the run stopped, the last reply may be cut off.
+abbrev pub PutsAt : SessionEnd → Option (List ℕ) → Option (List ℕ) → List ℕ → List ℕ → List Answer → Type 0
+PutsAt end.Fault before after asked replied made =
+    (calls : List Answer) × (bye : Answer) × (bye.call ≡ call.Bye) × (made ≡ calls ++ bye ∷ []) × PutsPart before after asked replied calls
+PutsAt end.Stopped before after asked replied made = PutsPart before after asked replied made
+PutsAt _ before after asked replied made = Gains before after replied
 
 -- Behind any number of answered turns the replies of the session, and no more, were put into the connection, and so they
--- were at an end.
+-- were at an end, of the calls that its caller made meanwhile.
 abbrev pub PutsItsReplies : Type 0
 PutsItsReplies =
     (first last after : Moment) (moments : List Moment) (how : SessionEnd) → first.talk ≡ new_talk → Runs first moments last
     → ComesTo (next.Ended how) last after
-    → Gains first.put last.put last.talk.replied × PutsAt how first.put after.put after.talk.asked after.talk.replied
+    → Gains first.put last.put last.talk.replied
+    × ((made : List Answer) × (after.answers ≡ first.answers ++ made)
+    × PutsAt how first.put after.put after.talk.asked after.talk.replied made)
 
--- And so they were where the session met want of memory, perhaps with a part of one more.
+-- And so they were where the session met want of memory; the last reply may be cut off.
 abbrev pub PutsItsRepliesWhereLost : Type 0
 PutsItsRepliesWhereLost =
     (first last after : Moment) (moments : List Moment) → first.talk ≡ new_talk → Runs first moments last → GetsLost last after
-    → PutsPart first.put after.put after.talk.asked after.talk.replied
+    → (made : List Answer) × (after.answers ≡ first.answers ++ made)
+    × PutsPart first.put after.put after.talk.asked after.talk.replied made

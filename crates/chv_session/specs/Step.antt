@@ -187,3 +187,26 @@ LosesFrom state.Lost before after = after.talk ≡ before.talk
 -- was; and an ended one meets none.
 abbrev pub GetsLost : Moment → Moment → Type 0
 GetsLost before after = LosesFrom before.talk.state before after
+
+-- ---- the connection of a lost session
+
+-- Memory was wanting at the Bye of an end to which an open session came by what it had at hand.
+pub record BreaksAtBye (before after : Moment) : Type 0 where
+  pub more : List ℕ
+  pub made : List Answer
+  pub unsent : List ℕ
+  pub rest : List ℕ
+  pub how : SessionEnd
+  pub takes : after.talk.asked ≡ before.talk.asked ++ more
+  pub calls : after.answers ≡ before.answers ++ made
+  pub comes : ComesToEnd how (record (hand_between before more after) { rest = rest }) unsent made
+
+-- Whether the connection of a session that stood there is closed, where memory was wanting: before and after the call.
+-- An open session left it as it was, and put nothing; or it closed it, at the Bye of an end. One that was leaving closed
+-- it, and a lost one left it.
+abbrev pub ClosesLost : State → Moment → Moment → Bool → Bool → Type 0
+ClosesLost state.Open before after closed closed_after =
+    ((closed_after ≡ closed) × (after.put ≡ before.put)) ⊎ ((closed_after ≡ true) × BreaksAtBye before after)
+ClosesLost (state.Leaving how) before after closed closed_after = closed_after ≡ true
+ClosesLost (state.Ended how) before after closed closed_after = ⊥
+ClosesLost state.Lost before after closed closed_after = closed_after ≡ closed

@@ -95,6 +95,7 @@ pub(crate) fn finish<R: Copy, K: Link, T: Desk<R>>(
     ensures err_goes_on { OnErr result (T.refused desk.new ≡ T.refused desk.old) }
     ensures asked { IsOnlyAsked T.asks desk.old desk.new }
     ensures err_end { OnErr result (IsEnd then) }
+    ensures err_closed { OnErr result (K.closed link.new ≡ true) }
     ensures closes { IfOk result (λ stands. Closes (said_at stands) (K.closed link.old) (K.closed link.new)) }
     ensures stays { StaysButClosed
         (wire (K.left link.old) (K.gave link.old) (K.written link.old) (K.most link.old) (K.read_faults link.old) (K.write_faults link.old))

@@ -7,7 +7,7 @@ ghost use Rattle.chv_session.specs.Talk.{new_talk, talk_of, end_of};
 ghost use Rattle.chv_session.specs.Taking.{intake, TakesPieces};
 ghost use Rattle.chv_session.specs.Moment.{moment};
 ghost use Rattle.chv_session.specs.Wire.{wire, Closes, Drains, StaysButClosed};
-ghost use Rattle.chv_session.specs.Step.{Step, IsReady, Breaks, ComesTo, GetsLost, said_at, is_over};
+ghost use Rattle.chv_session.specs.Step.{Step, IsReady, Breaks, ComesTo, GetsLost, ClosesLost, said_at, is_over};
 
 use crate::fill::fill;
 use crate::next::Next;
@@ -58,6 +58,11 @@ fn step<R: Copy, K: Link, T: Desk<R>>(
         (moment (talk_of asked.new.items parser.new replied.new.items State.Lost) (T.answers desk.new) (T.refused desk.new) (K.written link.new)
         (K.read_faults link.new) (K.write_faults link.new))) }
     ensures err_goes_on { OnErr result (T.refused desk.new ≡ T.refused desk.old) }
+    ensures err_closes { OnErr result (ClosesLost State.Open
+        (moment (talk_of asked.old.items parser.old replied.old.items State.Open) (T.answers desk.old) (T.refused desk.old) (K.written link.old)
+        (K.read_faults link.old) (K.write_faults link.old))
+        (moment (talk_of asked.new.items parser.new replied.new.items State.Lost) (T.answers desk.new) (T.refused desk.new) (K.written link.new)
+        (K.read_faults link.new) (K.write_faults link.new)) (K.closed link.old) (K.closed link.new)) }
 
     // What stays.
     ensures caller { T.caller desk.new ≡ T.caller desk.old }
@@ -147,7 +152,8 @@ impl Session {
     /// refusal is there, makes the request's calls at the desk, and puts the reply. Behind a last request and behind a
     /// refusal the next call is its end. At an end it closes the connection and makes the call Bye, but where the run
     /// stopped before; after an end it answers that end again. After want of memory it answers that again, and the session
-    /// is of use for its log alone.
+    /// is of use for its log alone; the connection is closed then where memory was wanting at the Bye of an end, and else
+    /// as it was.
     pub fn next<R: Copy, K: Link, T: Desk<R>>(
         &mut self,
         rt: R,
@@ -182,6 +188,11 @@ impl Session {
             (K.read_faults link.old) (K.write_faults link.old))
             (moment self.new (T.answers desk.new) (T.refused desk.new) (K.written link.new)
             (K.read_faults link.new) (K.write_faults link.new))) }
+        ensures lost_closes { OnErr result (ClosesLost self.old.state
+            (moment self.old (T.answers desk.old) (T.refused desk.old) (K.written link.old)
+            (K.read_faults link.old) (K.write_faults link.old))
+            (moment self.new (T.answers desk.new) (T.refused desk.new) (K.written link.new)
+            (K.read_faults link.new) (K.write_faults link.new)) (K.closed link.old) (K.closed link.new)) }
 
         // What stays; all of the connection but whether it is closed, where the session is not open; and all else where it
         // is over.

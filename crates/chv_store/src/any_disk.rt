@@ -1,5 +1,8 @@
 // One of two kinds of disk.
-ghost use Rattle.std.specs.Prelude.{◌≡◌};
+ghost use Rattle.std.specs.Prelude.{◌≡◌, ◌<◌};
+ghost use Rattle.chv_io.specs.Disks.{GivesSector, WritesSector};
+ghost use Rattle.chv_io.specs.FailingCalls.{FailsAsListed};
+ghost use Rattle.chv_io.specs.Outside.{HasCause};
 
 use crate::MemDisk;
 use chv_io::{Disk, Failed};
@@ -14,16 +17,15 @@ pub enum AnyDisk<D> {
 }
 
 impl<D: Disk> Disk for AnyDisk<D> {
-    ghost use Rattle.chv_store.specs.AnyDisk.{of_either};
-    ghost use Rattle.std.specs.Prelude.{Some, length};
+    ghost use Rattle.chv_store.specs.AnyDisk.{calls_by, contents_by, faults_by, is_given, sector_count_by};
 
-    ghost contents = { of_either D.contents (λ d. Some d.sectors) };
+    ghost contents = { contents_by D.contents };
 
-    ghost sector_count = { of_either D.sector_count (λ d. length d.sectors) };
+    ghost sector_count = { sector_count_by D.sector_count };
 
-    ghost faults = { of_either D.faults (λ d. d.calls.faults) };
+    ghost faults = { faults_by D.faults };
 
-    ghost calls = { of_either D.calls (λ d. Some d.calls) };
+    ghost calls = { calls_by D.calls };
 
     fn sectors(&self) -> u64 {
         match self {
@@ -32,21 +34,45 @@ impl<D: Disk> Disk for AnyDisk<D> {
         }
     }
 
-    fn read(&mut self, sector: u64, into: &mut [u8; 512]) -> Result<(), Failed> {
+    fn read(&mut self, sector: u64, into: &mut [u8; 512]) -> Result<(), Failed>
+        requires { sector < sector_count_by D.sector_count self.old }
+        ensures gives { GivesSector (contents_by D.contents self.old) sector into.new result }
+        ensures contents { contents_by D.contents self.new ≡ contents_by D.contents self.old }
+        ensures count { sector_count_by D.sector_count self.new ≡ sector_count_by D.sector_count self.old }
+        ensures cause { HasCause (faults_by D.faults self.old) (faults_by D.faults self.new) result }
+        ensures listed { FailsAsListed (calls_by D.calls self.old) (calls_by D.calls self.new) result }
+        // It stays a disk that was handed in, or one in memory.
+        ensures kind { is_given self.new ≡ is_given self.old }
+    {
         match self {
             AnyDisk::Given(disk) => disk.read(sector, into),
             AnyDisk::Made(disk) => disk.read(sector, into),
         }
     }
 
-    fn write(&mut self, sector: u64, from: &[u8; 512]) -> Result<(), Failed> {
+    fn write(&mut self, sector: u64, from: &[u8; 512]) -> Result<(), Failed>
+        requires { sector < sector_count_by D.sector_count self.old }
+        ensures contents { WritesSector (contents_by D.contents self.old) (contents_by D.contents self.new) sector from.now result }
+        ensures count { sector_count_by D.sector_count self.new ≡ sector_count_by D.sector_count self.old }
+        ensures cause { HasCause (faults_by D.faults self.old) (faults_by D.faults self.new) result }
+        ensures listed { FailsAsListed (calls_by D.calls self.old) (calls_by D.calls self.new) result }
+        // It stays a disk that was handed in, or one in memory.
+        ensures kind { is_given self.new ≡ is_given self.old }
+    {
         match self {
             AnyDisk::Given(disk) => disk.write(sector, from),
             AnyDisk::Made(disk) => disk.write(sector, from),
         }
     }
 
-    fn flush(&mut self) -> Result<(), Failed> {
+    fn flush(&mut self) -> Result<(), Failed>
+        ensures contents { contents_by D.contents self.new ≡ contents_by D.contents self.old }
+        ensures count { sector_count_by D.sector_count self.new ≡ sector_count_by D.sector_count self.old }
+        ensures cause { HasCause (faults_by D.faults self.old) (faults_by D.faults self.new) result }
+        ensures listed { FailsAsListed (calls_by D.calls self.old) (calls_by D.calls self.new) result }
+        // It stays a disk that was handed in, or one in memory.
+        ensures kind { is_given self.new ≡ is_given self.old }
+    {
         match self {
             AnyDisk::Given(disk) => disk.flush(),
             AnyDisk::Made(disk) => disk.flush(),

@@ -3,7 +3,7 @@ use crate::answers::{allocated, answer};
 use crate::escapes::bytes_of;
 use crate::numbers::number_or_none;
 use crate::words::found;
-use crate::{calls, configs, json, numbers, replies, scenes, scripts, streams};
+use crate::{calls, configs, json, numbers, replies, routes, scenes, scripts, steps, streams};
 use chv_json::{config_of, disk_of, resize_of, zone_of};
 use chv_num::{hex_of, read_dec, read_hex};
 use std::alloc::{AllocError, Global};
@@ -26,6 +26,8 @@ pub fn answer_to(alloc: Global, kind: &str, words: &str) -> io::Result<String> {
         "status" => replies::status(alloc, words),
         "stream" => streams::stream(alloc, words),
         "pieces" => streams::pieces(alloc, words),
+        "step" => steps::instruction(alloc, words),
+        "route" => routes::access(alloc, words),
         _ => answer_to_bytes(alloc, kind, words),
     }
 }

@@ -19,8 +19,8 @@ pub fn script(alloc: Global, text: &[u8]) -> Result<String, AllocError> {
     answer(alloc, read(alloc, &lines))
 }
 
-// The lines of a text, without their line feeds. What stands behind the last line feed is no line.
-fn lines_of(alloc: Global, text: &[u8]) -> Result<Vec<Bytes>, AllocError> {
+/// The lines of a text, without their line feeds. What stands behind the last line feed is no line.
+pub fn lines_of(alloc: Global, text: &[u8]) -> Result<Vec<Bytes>, AllocError> {
     let mut lines = Vec::new(alloc);
     let mut line = Vec::new(alloc);
     for byte in text {

@@ -1,19 +1,19 @@
 -- A bank whose places are used up, and two zones at rest.
-use Rattle.std.proofs.Common.{◌≡◌, ℕ, zero, suc, ◌+◌, ◌-◌, ◌<◌, ◌≤◌, Bool, true, false, List, [], length, refl, sym, ◌∙◌, ap, subst, arith}
-use Rattle.std.specs.Prelude.{◌==◌, ◌&&◌, if◌then◌else◌}
+use Rattle.std.proofs.Common.{◌≡◌, ℕ, zero, suc, ◌+◌, ◌-◌, ◌<◌, false, List, [], length, refl, sym, ◌∙◌, ap, subst, arith}
+use Rattle.std.specs.Prelude.{◌==◌, ◌&&◌}
 use Rattle.chv_defs_memory.specs.declared.bank.BankCall.TheVariants as call
 use Rattle.chv_defs_memory.specs.declared.bank.BankReply.{BankReply}
 use Rattle.chv_defs_memory.specs.declared.bank.Span.{Span}
 use Rattle.chv_defs_memory.specs.BankState.{banks, is_frozen}
 use Rattle.chv_defs_memory.specs.BankBook.{owner_reply}
-use Rattle.chv_defs_memory.specs.Zones.{Enters, IsBank, Known, OtherBanksStay, OtherZonesStay}
+use Rattle.chv_defs_memory.specs.Zones.{Enters, Known, OtherBanksStay, OtherZonesStay}
 use Rattle.chv_defs_memory.proofs.GoingOn.{frozen-entry}
 use Rattle.chv_defs_control.specs.declared.machine.Machine.{Machine}
 use Rattle.chv_defs_control.specs.OwnerCalls.{zones_of}
 use Rattle.chv_ctl_mem.specs.ZoneCalls.{AreAsBefore, AreAtRest, IsAtRestSo}
 use Rattle.chv_guest.specs.LentBanks.{fresh_zones, known_at, Lent}
 use Rattle.chv_guest.proofs.SameBanks.{fresh-known}
-use Rattle.chv_tests_control.proofs.NoOthers.{call_made}
+use Rattle.chv_guest.proofs.NoOthers.{call_made}
 
 -- ---- places are used
 
@@ -32,15 +32,6 @@ one-used lent places before after span r home left entered =
       entries = ap (λ (k : Known). k.entries) made ∙ (let less : before.entries - 1 ≡ places = omega (arith, left.entries) in less);
       pages = ap (λ (k : Known). k.pages) made ∙ (let none : before.pages - 0 ≡ 0 = omega (arith, left.pages) in none);
     }
-
--- with none left it is at rest
-pub rest-left : (known : Known) → HasLeft 0 known → IsAtRestSo false known
-rest-left known left = record {
-  rest = ap (λ entries. record known { entries = entries }) left.entries
-      ∙ ap (λ pages. record known { entries = 0; pages = pages }) left.pages
-      ∙ ap (λ (frozen : Bool). record { history = known.history; entries = (if frozen then 1 else 0); pages = 0 }) (sym left.thawed);
-  frozen_so = left.thawed;
-}
 
 -- what leaves the other zones, and then the other banks of this one and all others, leaves the other zones
 pub others-behind : (before now after : ℕ → ℕ → Known) (zone : ℕ) → OtherZonesStay before now zone → OtherBanksStay now after zone 0 → OtherZonesStay before after zone

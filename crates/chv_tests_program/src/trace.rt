@@ -33,28 +33,10 @@ fn push_session(
     sessions.push(SessionTrace { session: 1, log })
 }
 
-// A trace to which nothing happened.
-fn no_trace(alloc: Global) -> Trace
-    ensures disks { result.disks ≡ [] }
-    ensures vcpus { result.vcpus ≡ [] }
-{
-    Trace {
-        disks: Row::empty(alloc),
-        vcpus: Row::empty(alloc),
-        control: Row::empty(alloc),
-        banks: Row::empty(alloc),
-        sessions: Row::empty(alloc),
-    }
-}
-
-// A session that made a ping and took so many bytes.
-fn fill_ping(alloc: Global, trace: &mut Trace, asked: usize) -> Result<(), AllocError>
-    ensures disks { trace.new.disks ≡ trace.old.disks }
-    ensures vcpus { trace.new.vcpus ≡ trace.old.vcpus }
-{
-    push_call(&mut trace.control, ControlCall::Ping)?;
-    push_call(&mut trace.control, ControlCall::Bye)?;
-    push_session(alloc, &mut trace.sessions, asked)
+// A ping and a leave.
+fn push_ping(control: &mut Row<ControlEntry>) -> Result<(), AllocError> {
+    push_call(control, ControlCall::Ping)?;
+    push_call(control, ControlCall::Bye)
 }
 
 /// How printing ends, and how many bytes are written.
@@ -71,11 +53,21 @@ fn printed(alloc: Global, trace: &Trace, failing: u64) -> Result<Printed, AllocE
 
 // What comes of the trace of a session that made a ping and took so many bytes.
 fn ping(alloc: Global, asked: usize, failing: u64) -> Result<Printed, AllocError> {
-    let mut trace = no_trace(alloc);
-    let filled = fill_ping(alloc, &mut trace, asked);
+    let mut control = Row::empty(alloc);
+    let mut sessions = Row::empty(alloc);
+    let called = push_ping(&mut control);
+    let logged = push_session(alloc, &mut sessions, asked);
+    let trace = Trace {
+        disks: Row::empty(alloc),
+        vcpus: Row::empty(alloc),
+        control,
+        banks: Row::empty(alloc),
+        sessions,
+    };
     let printed = printed(alloc, &trace, failing);
     drop(trace);
-    filled?;
+    called?;
+    logged?;
     printed
 }
 

@@ -15,6 +15,7 @@ use Rattle.chv_defs.specs.Schedule.{Stage, schedule, trace_at, trace_of}
 use Rattle.chv_defs.specs.TraceText.{trace_text}
 use Rattle.chv_play.specs.Played.{Comes}
 use Rattle.chv_play.proofs.CallerLemmas.{scheduled_of_sessions}
+use Rattle.chv_play.proofs.OwnLemmas.{scheduled_asks}
 use Rattle.chv_scene.specs.Played.{Sessions, read_played, played_answer, scene_of}
 use Rattle.chv_top.specs.Outcome.{IsComplete, IsInput, IsRead, most_input, of_scenario, of_schedule, outcome_of, status_of, text_of, TooLong, Refused}
 use Rattle.chv_top.specs.Says.{IsPlain, IsScene, Reports, ReportsTrace, Says, StopsBy, Tells}
@@ -175,6 +176,8 @@ says_scene shelf before after scene status.Done is reports =
       scenario = is.scenario;
       scheduled = reports.1;
       one_each = (scheduled_of_sessions shelf scene.sessions reports.0 reports.1).one_each;
+      numbered = (scheduled_of_sessions shelf scene.sessions reports.0 reports.1).numbered;
+      own_streams = scheduled_asks shelf scene.sessions reports.0 reports.1;
       legal = reports.2;
       output = reports.3;
     }

@@ -1,11 +1,6 @@
 -- Lines from their parts.
-use Rattle.std.proofs.Common.{◌≡◌, ℕ, List, ◌∷◌, ◌++◌, codes, Result, Ok, Err, IfOk, sym, ◌∙◌, ap, append_assoc}
+use Rattle.std.proofs.Common.{◌≡◌, ℕ, List, ◌∷◌, ◌++◌, codes, sym, ◌∙◌, ap, append_assoc}
 use Rattle.chv_defs_scene.specs.ScriptText.{field}
-
--- what is printed is the same text
-pub printed_same : {S E : Type 0} (bytes : S → List ℕ) (r : Result S E) (a b : List ℕ) → IfOk r (λ s. bytes s ≡ a) → a ≡ b → IfOk r (λ s. bytes s ≡ b)
-printed_same bytes (Ok s) a b h e = h ∙ e
-printed_same bytes (Err x) a b h e = tt
 
 regrouped5 : (a b c d e : List ℕ) → a ++ (b ++ (c ++ (d ++ e))) ≡ a ++ b ++ c ++ d ++ e
 regrouped5 a b c d e = simp append_assoc

@@ -11,6 +11,8 @@ use Rattle.chv_scene.specs.Played.{Sessions, read_played}
 use Rattle.chv_defs.specs.Schedule.{schedule}
 use Rattle.chv_defs.specs.TraceText.{trace_text}
 use Rattle.chv_defs.specs.LegalTrace.{IsLegalTrace}
+use Rattle.chv_play.specs.Played.{AreNumberedFromOne}
+use Rattle.chv_play.specs.OwnStream.{AskTheirOwn}
 use Rattle.chv_top.specs.declared.status.Status.{Status}
 use Rattle.chv_top.specs.declared.status.Status.TheVariants as status
 
@@ -86,9 +88,10 @@ TakesAtMost left left_after most = (taken : List ℕ) × Loses left left_after t
 -- ---- what the statuses say
 
 -- A scenario was played: the input, read to its end, is a scenario of these sessions; the trace is the one that the
--- schedule gives, where these disks stand by, and what was written is its text. It has one log for each of the sessions, and is
--- legal: so are its control history, which is made of the calls of these sessions alone, those of each in order, and the history
--- of each bank, in which the owner's calls are those that the control history asks for.
+-- schedule gives, where these disks stand by, and what was written is its text. It has one log for each of the sessions, which
+-- are numbered from 1 on, and each of which asked of the stream of its own section. It is legal: so are its control history,
+-- which is made of the calls of these sessions alone, those of each in order, and the history of each bank, in which the
+-- owner's calls are those that the control history asks for.
 pub record IsPlayed (shelf : List OnShelf) (left left_after written written_after : Option (List ℕ)) : Type 0 where
   pub text : List ℕ
   pub sessions : Sessions
@@ -97,6 +100,8 @@ pub record IsPlayed (shelf : List OnShelf) (left left_after written written_afte
   pub scenario : read_played text ≡ Ok sessions
   pub scheduled : schedule shelf sessions ≡ Ok trace
   pub one_each : length trace.sessions ≡ length sessions
+  pub numbered : AreNumberedFromOne trace.sessions
+  pub own_streams : AskTheirOwn sessions trace.sessions
   pub legal : IsLegalTrace shelf trace
   pub output : Gains written written_after (trace_text trace)
 

@@ -1,7 +1,7 @@
 use Rattle.chv_defs_api.specs.declared.control.ControlReply.TheVariants as reply
 use Rattle.chv_defs_api.specs.declared.control.ControlCall.TheVariants as control
 use Rattle.chv_ctl_mem.specs.declared.plan.Plan.TheVariants as plan
-use Rattle.chv_ctl_mem.proofs.PlanSteps.{answer-same, boot-plan, called-same}
+use Rattle.chv_ctl_mem.proofs.ControlPlans.{answer-same, boot-plan, called-same}
 use Rattle.chv_ctl_mem.proofs.boot.boot_zones.Goals as goal
 
 pub returns-clause-answer : goal.returns-clause-answer

@@ -1,7 +1,7 @@
 use Rattle.chv_defs_api.specs.declared.control.ControlReply.TheVariants as reply
 use Rattle.chv_defs_api.specs.declared.control.ControlCall.TheVariants as control
 use Rattle.chv_defs_api.specs.declared.control.Goal.TheVariants as goal_is
-use Rattle.chv_ctl_mem.proofs.PlanSteps.{answer-same, called-same, wipe-plan}
+use Rattle.chv_ctl_mem.proofs.ControlPlans.{answer-same, called-same, wipe-plan}
 use Rattle.chv_ctl_mem.proofs.boot.wipe_all.Goals as goal
 
 pub returns-clause-answer : goal.returns-clause-answer

@@ -3,7 +3,7 @@ use Rattle.chv_defs_control.specs.FullBooks.{book_in}
 use Rattle.chv_defs_control.specs.OwnerCalls.{room_refusal_for}
 use Rattle.chv_ctl_mem.specs.Plans.{plan_refusal}
 use Rattle.chv_ctl_mem.specs.ZoneCalls.{unless_full}
-use Rattle.chv_ctl_mem.proofs.PlanSteps.{for-calls, full-answer, none-due, none-made, only-full, refusal-same}
+use Rattle.chv_ctl_mem.proofs.ControlPlans.{for-calls, full-answer, none-due, none-made, only-full, refusal-same}
 use Rattle.chv_ctl_mem.proofs.owner.make_owner_calls.Goals as goal
 
 pub full_or_done-requires : goal.full_or_done-requires

@@ -24,4 +24,4 @@ returns-in-Ok-Ok-clause-comes g c =
     let disks : last.disks ≡ start.disks =
     ap (λ (x : PlayedControl g.row.D.Denot). x.disks) ended ∙ c.in-Ok-Ok.ensures.disks ∙ ap (λ (x : PlayedControl g.row.D.Denot). x.disks) began in
     comes_legal count sessions start last c.in-Ok-Ok.logs c.trace_of.result.trace c.trace_of.result.cause gives disks c.history.ensures.legal c.history.ensures.linked
-    (subst (λ (z : Lent). AreAllBanks z.books) c.zones.ensures c.recall.ensures.all) c.trace_of.ensures.traced
+    (subst (λ (z : Lent). AreAllBanks z.books) c.zones.ensures c.recall.ensures.all) c.requires.few c.trace_of.ensures.traced

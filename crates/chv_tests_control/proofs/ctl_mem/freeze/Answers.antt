@@ -3,7 +3,7 @@ use Rattle.chv_defs_memory.specs.declared.bank.BankCall.TheVariants as call
 use Rattle.chv_defs_memory.specs.Zones.{Known}
 use Rattle.chv_defs_memory.proofs.ZoneLaws.{entered_by}
 use Rattle.chv_guest.specs.LentBanks.{known_at}
-use Rattle.chv_tests_control.proofs.NoOthers.{call_made}
+use Rattle.chv_guest.proofs.NoOthers.{call_made}
 use Rattle.chv_tests_control.proofs.ctl_mem.freeze.Goals as goal
 
 pub returns-clause-frozen : goal.returns-clause-frozen

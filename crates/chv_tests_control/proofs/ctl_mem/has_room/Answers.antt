@@ -1,7 +1,7 @@
 use Rattle.std.proofs.Common.{◌≡◌, ℕ, ◌+◌, [], ap, sym, ◌∙◌, arith}
 use Rattle.chv_defs_memory.specs.Zones.{Known}
 use Rattle.chv_guest.specs.LentBanks.{known_at}
-use Rattle.chv_tests_control.proofs.NoOthers.{room_made}
+use Rattle.chv_guest.proofs.NoOthers.{room_made}
 use Rattle.chv_tests_control.proofs.ctl_mem.has_room.Goals as goal
 
 pub returns-clause-made : goal.returns-clause-made

@@ -1,7 +1,7 @@
 use Rattle.std.proofs.Common.{◌+◌, ap, sym, ◌∙◌}
 use Rattle.chv_defs_memory.specs.Zones.{Known}
 use Rattle.chv_guest.specs.LentBanks.{known_at}
-use Rattle.chv_tests_memory.proofs.NoOthers.{room_made}
+use Rattle.chv_guest.proofs.NoOthers.{room_made}
 use Rattle.chv_tests_memory.proofs.guest.has_room.Goals as goal
 
 pub returns-clause-made : goal.returns-clause-made

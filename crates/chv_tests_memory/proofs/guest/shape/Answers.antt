@@ -5,7 +5,7 @@ use Rattle.chv_defs_memory.specs.declared.bank.BankReply.TheVariants as reply
 use Rattle.chv_defs_memory.specs.Zones.{Known}
 use Rattle.chv_defs_memory.proofs.ZoneLaws.{entered_by}
 use Rattle.chv_guest.specs.LentBanks.{known_at}
-use Rattle.chv_tests_memory.proofs.NoOthers.{call_made}
+use Rattle.chv_guest.proofs.NoOthers.{call_made}
 use Rattle.chv_tests_memory.proofs.guest.shape.Goals as goal
 
 pub returns-clause-shaped : goal.returns-clause-shaped

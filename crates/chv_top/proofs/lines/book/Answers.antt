@@ -1,5 +1,6 @@
 use Rattle.std.proofs.Common.{string_bytes}
-use Rattle.chv_top.proofs.Texts.{bank_same, printed_same}
+use Rattle.chv_top.proofs.Texts.{bank_same}
+use Rattle.chv_trace.proofs.Joined.{printed_same}
 use Rattle.chv_top.proofs.lines.book.Goals as goal
 
 pub returns-in-Bank : goal.returns-in-Bank

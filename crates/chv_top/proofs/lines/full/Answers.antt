@@ -1,5 +1,6 @@
 use Rattle.std.proofs.Common.{string_bytes}
-use Rattle.chv_top.proofs.Texts.{full_same, printed_same}
+use Rattle.chv_top.proofs.Texts.{full_same}
+use Rattle.chv_trace.proofs.Joined.{printed_same}
 use Rattle.chv_top.proofs.lines.full.Goals as goal
 
 pub returns : goal.returns

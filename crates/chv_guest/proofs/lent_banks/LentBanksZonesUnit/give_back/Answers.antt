@@ -1,10 +1,11 @@
 use Rattle.std.proofs.Common.{◌<◌, ℕ, List, [], sym, subst}
 use Rattle.chv_defs_memory.specs.BankState.{banks}
 use Rattle.chv_defs_memory.specs.BankBook.{BankBook}
+use Rattle.chv_defs_memory.specs.LegalBank.{IsLegal}
 use Rattle.chv_defs_memory.specs.Zones.{GivesBack, OtherZonesStay}
-use Rattle.chv_guest.specs.LentBanks.{known_at, AreAllBanks, Lent}
+use Rattle.chv_guest.specs.LentBanks.{change_zone, known_at, AreAllBanks, Lent}
 use Rattle.chv_guest.specs.Room.{keep_places}
-use Rattle.chv_guest.proofs.ZoneBanks.{AreAllBanks-changed}
+use Rattle.chv_guest.proofs.ZoneBanks.{legal-known, AreAllBanks-changed}
 use Rattle.chv_guest.proofs.KnownBanks.{gives_back, keep_places-keeps, others-stay}
 use Rattle.chv_guest.proofs.lent_banks.LentBanksZonesUnit.give_back.Goals as goal
 
@@ -26,3 +27,10 @@ returns-clause-others c =
     subst (λ (zones : Lent). OtherZonesStay (known_at zones.books) (known_at c.keep_room.new.all.items) c.args.zone) c.self.view_is
     (subst (λ (after : List BankBook). OtherZonesStay (known_at old) (known_at after) c.args.zone) (sym c.keep_room.ensures)
     (others-stay old c.args.zone (keep_places c.args.keep) c.self.invariant c.requires.zone))
+
+pub returns-clause-legal : goal.returns-clause-legal
+returns-clause-legal c =
+    let old : List BankBook = c.self.inside.banks.items in
+    subst (λ (after : List BankBook). (bank : ℕ) → bank < banks → IsLegal bank (known_at after c.args.zone bank).history) (sym c.keep_room.ensures)
+    (λ bank inside. legal-known (change_zone c.args.zone (keep_places c.args.keep) old) c.args.zone bank
+    (AreAllBanks-changed old c.args.zone (keep_places c.args.keep) (keep_places-keeps c.args.keep) c.requires.zone c.self.invariant) c.requires.zone inside)

@@ -1,9 +1,9 @@
 use Rattle.std.proofs.Common.{◌≡◌, ℕ, List, [], sym, ap, subst, ◌∙◌}
-use Rattle.chv_defs_memory.specs.BankBook.{BankBook}
+use Rattle.chv_defs_memory.specs.BankBook.{with_entry, BankBook}
 use Rattle.chv_defs_memory.specs.LegalBank.{IsLegal, OwnerMay}
 use Rattle.chv_defs_memory.specs.Zones.{OwnerMayAsk}
 use Rattle.chv_guest.specs.LentBanks.{bank_at, Lent}
-use Rattle.chv_guest.proofs.ZoneBanks.{at-place, bank-known, bank-read, bank-set}
+use Rattle.chv_guest.proofs.ZoneBanks.{at-place, bank-known, bank-read, bank-set, AreAllBanks-entered}
 use Rattle.chv_guest.proofs.OwnEntries.{may-from_ask}
 use Rattle.chv_guest.proofs.lent_banks.LentBanksZonesUnit.owner.Goals as goal
 
@@ -29,3 +29,14 @@ returns-clause-legal c =
     let legal : IsLegal c.args.bank c.owner.new.self.history = subst (λ (bank : ℕ). IsLegal bank c.owner.new.self.history) known c.owner.ensures.legal in
     subst (λ (b : BankBook). IsLegal c.args.bank b.history)
     (sym (bank-set old c.args.zone c.args.bank c.place_of.result c.owner.new.self c.self.invariant c.requires.zone.0 c.requires.zone.1 c.place_of.ensures)) legal
+
+pub invariant_of-self : goal.invariant_of-self
+invariant_of-self c =
+    let old : List BankBook = c.self.inside.banks.items in
+    let here : c.index_mut.result.now ≡ bank_at old c.args.zone c.args.bank =
+    bank-read old c.args.zone c.args.bank c.place_of.result c.index_mut.result.now c.self.invariant c.requires.zone.0 c.requires.zone.1 c.place_of.ensures c.index_mut.ensures.value in
+    AreAllBanks-entered old c.args.zone c.args.bank c.place_of.result c.args.call.now c.owner.result c.owner.new.self c.self.invariant c.requires.zone.0 c.requires.zone.1 c.place_of.ensures c.requires.owner
+    (ap (λ (b : BankBook). b.zone) c.owner.ensures.entry ∙ ap (λ (b : BankBook). b.zone) here)
+    (ap (λ (b : BankBook). b.bank) c.owner.ensures.entry ∙ ap (λ (b : BankBook). b.bank) here)
+    (ap (λ (b : BankBook). b.history) c.owner.ensures.entry ∙ ap (λ (b : BankBook). with_entry b.history 0 c.args.call.now c.owner.result) here)
+    (subst (λ (n : ℕ). IsLegal n c.owner.new.self.history) (sym (ap (λ (b : BankBook). b.bank) c.owner.ensures.entry)) c.owner.ensures.legal)

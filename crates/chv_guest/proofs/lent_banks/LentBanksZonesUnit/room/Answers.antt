@@ -1,8 +1,13 @@
-use Rattle.std.proofs.Common.{List, [], IfOk, sym, subst}
+use Rattle.std.proofs.Common.{ℕ, ◌<◌, List, [], IfOk, sym, subst}
+use Rattle.std.specs.Prelude.{if◌then◌else◌}
+use Rattle.chv_defs_memory.specs.BankState.{banks}
+use Rattle.chv_defs_memory.specs.LegalBank.{IsLegal}
 use Rattle.chv_defs_memory.specs.BankBook.{BankBook}
 use Rattle.chv_defs_memory.specs.Zones.{MakesRoom, OtherZonesStay}
-use Rattle.chv_guest.specs.LentBanks.{known_at, AreAllBanks, Lent}
+use Rattle.chv_guest.specs.LentBanks.{change_zone, known_at, AreAllBanks, Lent}
+use Rattle.chv_guest.specs.Room.{is_made, with_places}
 use Rattle.chv_guest.proofs.KnownBanks.{makes_room, others-stay-room, AreAllBanks-room}
+use Rattle.chv_guest.proofs.ZoneBanks.{legal-known}
 use Rattle.chv_guest.proofs.lent_banks.LentBanksZonesUnit.room.Goals as goal
 
 pub invariant_of-self : goal.invariant_of-self
@@ -23,3 +28,10 @@ returns-clause-others c =
     subst (λ (zones : Lent). OtherZonesStay (known_at zones.books) (known_at c.make_room.new.all.items) c.args.zone) c.self.view_is
     (subst (λ (after : List BankBook). OtherZonesStay (known_at old) (known_at after) c.args.zone) (sym c.make_room.ensures.made)
     (others-stay-room old c.args.zone c.args.entries c.args.pages c.make_room.result c.self.invariant c.requires.zone))
+
+pub returns-clause-legal : goal.returns-clause-legal
+returns-clause-legal c =
+    let old : List BankBook = c.self.inside.banks.items in
+    subst (λ (after : List BankBook). (bank : ℕ) → bank < banks → IsLegal bank (known_at after c.args.zone bank).history) (sym c.make_room.ensures.made)
+    (λ bank inside. legal-known (if is_made c.make_room.result then change_zone c.args.zone (with_places c.args.entries c.args.pages) old else old) c.args.zone bank
+    (AreAllBanks-room old c.args.zone c.args.entries c.args.pages c.make_room.result c.self.invariant c.requires.zone) c.requires.zone inside)

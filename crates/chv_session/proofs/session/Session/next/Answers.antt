@@ -5,7 +5,7 @@ use Rattle.chv_session.specs.Talk.{Talk, talk_of}
 use Rattle.chv_session.specs.Moment.{moment}
 use Rattle.chv_session.specs.Taking.{intake}
 use Rattle.chv_session.proofs.TakingLemmas.{takes_none}
-use Rattle.chv_session.proofs.LeftLemmas.{left_comes, left_lost, left_ready, left_drains}
+use Rattle.chv_session.proofs.LeftLemmas.{left_comes, left_lost, left_closes, left_ready, left_drains}
 use Rattle.chv_session.proofs.session.Session.next.Goals as goal
 
 pub returns-in-Open-clause-outcome : goal.returns-in-Open-clause-outcome
@@ -22,6 +22,13 @@ returns-in-Open-clause-lost g c =
     (ap (λ (s : State). talk_of c.self.inside.asked.items c.self.inside.parser c.self.inside.replied.items s) (sym c.in-Open.is)
     ∙ c.self.view_is) c.step-left.ensures.err c.step-left.ensures.err_goes_on
     c.stand-in-Open.ensures
+
+pub returns-in-Open-clause-lost_closes : goal.returns-in-Open-clause-lost_closes
+returns-in-Open-clause-lost_closes g c =
+    left_closes _ _ _ (moment (talk_of c.self.inside.asked.items c.self.inside.parser c.self.inside.replied.items state.Open) _ _ _ _ _)
+    (moment (talk_of _ _ _ state.Open) _ _ _ _ _) _ _ refl
+    (ap (λ (s : State). talk_of c.self.inside.asked.items c.self.inside.parser c.self.inside.replied.items s) (sym c.in-Open.is)
+    ∙ c.self.view_is) c.step-left.ensures.err_closes c.stand-in-Open.ensures
 
 pub returns-in-Open-clause-ready : goal.returns-in-Open-clause-ready
 returns-in-Open-clause-ready g c =

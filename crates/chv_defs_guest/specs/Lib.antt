@@ -1,0 +1,4 @@
+pub mod Instruction
+pub mod Runs
+pub mod Routing
+pub mod Pieces
