@@ -3,6 +3,7 @@ pub mod FieldLemmas
 pub mod GrammarLemmas
 pub mod OpeningLemmas
 pub mod OrderLemmas
+pub mod PlayedLemmas
 pub mod Printed
 pub mod ReadBackLemmas
 pub mod ReadingLemmas

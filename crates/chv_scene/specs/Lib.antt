@@ -1,5 +1,6 @@
 pub mod Answer
 pub mod Cuts
 pub mod Meanings
+pub mod Played
 pub mod Reading
 pub mod Scripts

@@ -6,6 +6,7 @@ mod laws;
 mod lines;
 mod meaning;
 mod outside;
+mod played;
 mod printing;
 mod reading;
 mod scenario;
@@ -14,5 +15,6 @@ mod section;
 mod steps;
 
 pub use laws::reads_exactly_the_scenarios;
+pub use played::read_played;
 pub use printing::print;
 pub use scenario::{SceneFault, read};

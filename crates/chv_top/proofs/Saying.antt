@@ -10,13 +10,13 @@ use Rattle.chv_defs.specs.declared.trace.Trace.{Trace}
 use Rattle.chv_defs_api.specs.declared.context.StopCause.{StopCause}
 use Rattle.chv_io.specs.Outside.{GainsPart}
 use Rattle.chv_defs.specs.ProgramText.{read_fault_line, scene_fault_line, too_long_line}
-use Rattle.chv_defs_scene.specs.ScenarioText.{Fault, Sessions, read_scenario}
+use Rattle.chv_defs_scene.specs.ScenarioText.{Fault}
 use Rattle.chv_defs.specs.Schedule.{Stage, schedule, trace_at, trace_of}
 use Rattle.chv_defs.specs.TraceText.{trace_text}
 use Rattle.chv_play.specs.Played.{Comes}
 use Rattle.chv_play.proofs.CallerLemmas.{scheduled_of_sessions}
 use Rattle.chv_play.proofs.OwnLemmas.{scheduled_asks}
-use Rattle.chv_scene.specs.Answer.{answer_of, scene_of}
+use Rattle.chv_scene.specs.Played.{Sessions, read_played, played_answer, scene_of}
 use Rattle.chv_top.specs.Outcome.{IsComplete, IsInput, IsRead, most_input, of_scenario, of_schedule, outcome_of, status_of, text_of, TooLong, Refused}
 use Rattle.chv_top.specs.Says.{IsPlain, IsScene, Reports, ReportsTrace, Says, StopsBy, Tells}
 use Rattle.chv_control.specs.Shelf as control
@@ -98,16 +98,16 @@ read_long (Some before) (Some rest) bytes read long =
 
 -- ---- what an input comes to
 
-of_short : (shelf : List OnShelf) (text : List ℕ) → length text ≤ most_input → outcome_of shelf text ≡ of_scenario shelf (read_scenario text)
-of_short shelf text short = ap (λ b. if b then TooLong else of_scenario shelf (read_scenario text)) (le-ltb most_input (length text) short)
+of_short : (shelf : List OnShelf) (text : List ℕ) → length text ≤ most_input → outcome_of shelf text ≡ of_scenario shelf (read_played text)
+of_short shelf text short = ap (λ b. if b then TooLong else of_scenario shelf (read_played text)) (le-ltb most_input (length text) short)
 
 of_long : (shelf : List OnShelf) (text : List ℕ) → most_input < length text → outcome_of shelf text ≡ TooLong
-of_long shelf text long = ap (λ b. if b then TooLong else of_scenario shelf (read_scenario text)) (lt-ltb most_input (length text) long)
+of_long shelf text long = ap (λ b. if b then TooLong else of_scenario shelf (read_played text)) (lt-ltb most_input (length text) long)
 
-of_sessions : (shelf : List OnShelf) (text : List ℕ) (sessions : Sessions) → length text ≤ most_input → read_scenario text ≡ Ok sessions → outcome_of shelf text ≡ of_schedule (schedule shelf sessions)
+of_sessions : (shelf : List OnShelf) (text : List ℕ) (sessions : Sessions) → length text ≤ most_input → read_played text ≡ Ok sessions → outcome_of shelf text ≡ of_schedule (schedule shelf sessions)
 of_sessions shelf text sessions short scenario = of_short shelf text short ∙ ap (of_scenario shelf) scenario
 
-of_fault : (shelf : List OnShelf) (text : List ℕ) (fault : Fault) → length text ≤ most_input → read_scenario text ≡ Err fault → outcome_of shelf text ≡ Refused fault
+of_fault : (shelf : List OnShelf) (text : List ℕ) (fault : Fault) → length text ≤ most_input → read_played text ≡ Err fault → outcome_of shelf text ≡ Refused fault
 of_fault shelf text fault short scenario = of_short shelf text short ∙ ap (of_scenario shelf) scenario
 
 -- ---- what a run says
@@ -232,7 +232,7 @@ shelf_given count (disk ∷ disks) = ap (λ rest. record { name = disk.0; sector
 -- ---- what the reader answers
 
 -- a scenario that was read
-pub scene_is : (r : Result Sessions Fault) (scene : Scene) → Ok scene ≡ answer_of r → r ≡ Ok scene.sessions
+pub scene_is : (r : Result Sessions Fault) (scene : Scene) → Ok scene ≡ played_answer r → r ≡ Ok scene.sessions
 scene_is (Ok sessions) scene e =
     let same : scene ≡ scene_of sessions = cc in
     ap (λ (s : Scene). ok_sessions s.sessions) (sym same)
@@ -242,7 +242,7 @@ scene_is (Ok sessions) scene e =
 scene_is (Err fault) scene e = absurd (cc)
 
 -- a fault that was read
-pub fault_is : (r : Result Sessions Fault) (fault : SceneFault) → Err fault ≡ answer_of r → r ≡ Err (record { line = fault.line; reason = fault.reason })
+pub fault_is : (r : Result Sessions Fault) (fault : SceneFault) → Err fault ≡ played_answer r → r ≡ Err (record { line = fault.line; reason = fault.reason })
 fault_is (Ok sessions) fault e = absurd (cc)
 fault_is (Err f) fault e =
     let same : fault ≡ record { line = f.line; reason = f.reason } = cc in
@@ -253,7 +253,7 @@ fault_is (Err f) fault e =
 
 -- what a scenario that was read whole comes to
 pub scene_read : {E : Type 0} (read : Result (Result Scene SceneFault) E) (result : Result Scene Stop) (left left_after : Option (List ℕ)) (text slice : List ℕ)
-    → slice ≡ text → IsRead left left_after text → IfOk read (λ answer. answer ≡ answer_of (read_scenario slice))
+    → slice ≡ text → IsRead left left_after text → IfOk read (λ answer. answer ≡ played_answer (read_played slice))
     → IfOk read (λ answer. IfOk answer (λ scene. length scene.sessions ≤ 16))
     → MatchResult read (λ answer. MatchResult answer (λ scene. result ≡ Ok scene) (λ fault. result ≡ Err (stop.Scene fault))) (λ _. result ≡ Err stop.Memory)
     → IfOk result (λ scene. IsScene left left_after scene)
@@ -261,7 +261,7 @@ scene_read (Ok (Ok scene)) result left left_after text slice same whole answers 
     subst (λ r. IfOk r (λ scene. IsScene left left_after scene)) (sym is) (record {
       text = text;
       read = whole;
-      scenario = scene_is (read_scenario text) scene (answers ∙ ap (λ t. answer_of (read_scenario t)) same);
+      scenario = scene_is (read_played text) scene (answers ∙ ap (λ t. played_answer (read_played t)) same);
       few = few;
     })
 scene_read (Ok (Err fault)) result left left_after text slice same whole answers few is =
@@ -271,13 +271,13 @@ scene_read (Err error) result left left_after text slice same whole answers few 
 
 -- why there is none in a text that was read whole
 pub scene_stops : {E : Type 0} (read : Result (Result Scene SceneFault) E) (result : Result Scene Stop) (left left_after : Option (List ℕ)) (reads reads_after : ℕ)
-    (text slice : List ℕ) → slice ≡ text → IsRead left left_after text → IfOk read (λ answer. answer ≡ answer_of (read_scenario slice))
+    (text slice : List ℕ) → slice ≡ text → IsRead left left_after text → IfOk read (λ answer. answer ≡ played_answer (read_played slice))
     → MatchResult read (λ answer. MatchResult answer (λ scene. result ≡ Ok scene) (λ fault. result ≡ Err (stop.Scene fault))) (λ _. result ≡ Err stop.Memory)
     → IfErr result (λ why. StopsBy left left_after reads reads_after why)
 scene_stops (Ok (Ok scene)) result left left_after reads reads_after text slice same whole answers is =
     subst (λ r. IfErr r (λ why. StopsBy left left_after reads reads_after why)) (sym is) tt
 scene_stops (Ok (Err fault)) result left left_after reads reads_after text slice same whole answers is =
     subst (λ r. IfErr r (λ why. StopsBy left left_after reads reads_after why)) (sym is)
-    (text, whole, fault_is (read_scenario text) fault (answers ∙ ap (λ t. answer_of (read_scenario t)) same))
+    (text, whole, fault_is (read_played text) fault (answers ∙ ap (λ t. played_answer (read_played t)) same))
 scene_stops (Err error) result left left_after reads reads_after text slice same whole answers is =
     subst (λ r. IfErr r (λ why. StopsBy left left_after reads reads_after why)) (sym is) tt

@@ -6,7 +6,8 @@ use Rattle.chv_defs_api.specs.declared.shelf.OnShelf.{OnShelf}
 use Rattle.chv_defs.specs.declared.trace.Trace.{Trace}
 use Rattle.chv_io.specs.Outside.{Rose, Loses, Gains, GainsPart}
 use Rattle.chv_defs.specs.ProgramText.{full_line, read_fault_line, scene_fault_line, too_long_line}
-use Rattle.chv_defs_scene.specs.ScenarioText.{Fault, Sessions, read_scenario}
+use Rattle.chv_defs_scene.specs.ScenarioText.{Fault}
+use Rattle.chv_scene.specs.Played.{Sessions, read_played}
 use Rattle.chv_defs.specs.Schedule.{schedule}
 use Rattle.chv_defs.specs.TraceText.{trace_text}
 use Rattle.chv_defs.specs.LegalTrace.{IsLegalTrace}
@@ -52,7 +53,7 @@ of_scenario shelf (Err fault) = Refused fault
 
 -- what an input comes to, where these disks stand by
 abbrev pub outcome_of : List OnShelf → List ℕ → Outcome
-outcome_of shelf input = if nat_lt most_input (length input) then TooLong else of_scenario shelf (read_scenario input)
+outcome_of shelf input = if nat_lt most_input (length input) then TooLong else of_scenario shelf (read_played input)
 
 -- the status that says so
 abbrev pub status_of : Outcome → Status
@@ -96,7 +97,7 @@ pub record IsPlayed (shelf : List OnShelf) (left left_after written written_afte
   pub sessions : Sessions
   pub trace : Trace
   pub read : IsRead left left_after text
-  pub scenario : read_scenario text ≡ Ok sessions
+  pub scenario : read_played text ≡ Ok sessions
   pub scheduled : schedule shelf sessions ≡ Ok trace
   pub one_each : length trace.sessions ≡ length sessions
   pub numbered : AreNumberedFromOne trace.sessions
@@ -108,7 +109,7 @@ pub record IsPlayed (shelf : List OnShelf) (left left_after written written_afte
 pub record IsRefused (left left_after written written_after : Option (List ℕ)) (line : ℕ) (reason : Reason) : Type 0 where
   pub text : List ℕ
   pub read : IsRead left left_after text
-  pub fault : read_scenario text ≡ Err (record { line = line; reason = reason })
+  pub fault : read_played text ≡ Err (record { line = line; reason = reason })
   pub output : Gains written written_after (scene_fault_line line reason)
 
 -- The input, read to its end, is a scenario, of which the schedule says that this book is full first. The line that says so
@@ -117,7 +118,7 @@ pub record IsFull (shelf : List OnShelf) (left left_after written written_after 
   pub text : List ℕ
   pub sessions : Sessions
   pub read : IsRead left left_after text
-  pub scenario : read_scenario text ≡ Ok sessions
+  pub scenario : read_played text ≡ Ok sessions
   pub fills : schedule shelf sessions ≡ Err full
   pub output : Gains written written_after (full_line full)
 

@@ -6,7 +6,7 @@ use Rattle.chv_defs_base.specs.declared.book.Full.{Full}
 use Rattle.chv_defs.specs.declared.trace.Trace.{Trace}
 use Rattle.chv_io.specs.Outside.{Rose, Gains, GainsPart}
 use Rattle.chv_defs.specs.ProgramText.{full_line, read_fault_line, scene_fault_line, too_long_line}
-use Rattle.chv_defs_scene.specs.ScenarioText.{read_scenario}
+use Rattle.chv_scene.specs.Played.{read_played}
 use Rattle.chv_defs.specs.TraceText.{trace_text}
 use Rattle.chv_defs.specs.LegalTrace.{IsLegalTrace}
 use Rattle.chv_top.specs.Outcome.{IsFull, IsInput, IsPartOfOwed, IsPlayed, IsRead, IsRefused, IsTooLong, most_input, of_schedule, text_of}
@@ -19,7 +19,7 @@ use Rattle.chv_top.specs.declared.program.Stop.TheVariants as stop
 pub record IsScene (left left_after : Option (List ℕ)) (scene : Scene) : Type 0 where
   pub text : List ℕ
   pub read : IsRead left left_after text
-  pub scenario : read_scenario text ≡ Ok scene.sessions
+  pub scenario : read_played text ≡ Ok scene.sessions
   pub few : length scene.sessions ≤ 16
 
 -- why there is none
@@ -28,7 +28,7 @@ StopsBy left left_after reads reads_after stop.Memory = Unit {0}
 StopsBy left left_after reads reads_after stop.ReadFault = Rose reads reads_after
 StopsBy left left_after reads reads_after stop.TooLong = (text : List ℕ) × IsInput left text × (most_input < length text)
 StopsBy left left_after reads reads_after (stop.Scene fault) =
-    (text : List ℕ) × IsRead left left_after text × (read_scenario text ≡ Err (record { line = fault.line; reason = fault.reason }))
+    (text : List ℕ) × IsRead left left_after text × (read_played text ≡ Err (record { line = fault.line; reason = fault.reason }))
 
 -- The text was written and the status is this one; or a first part of it was, and the output had a fault.
 abbrev pub Writes : Option (List ℕ) → Option (List ℕ) → ℕ → ℕ → List ℕ → Status → Status → Type 0

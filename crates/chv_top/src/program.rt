@@ -83,7 +83,7 @@ fn scene_in<S: Source>(alloc: Global, input: &mut S) -> Result<Scene, Stop>
     if is_too_long(text.len()) {
         return Err(Stop::TooLong);
     }
-    or_stop(chv_scene::read(alloc, text.as_slice()))
+    or_stop(chv_scene::read_played(alloc, text.as_slice()))
 }
 
 // Whether an input of so many bytes is too long.

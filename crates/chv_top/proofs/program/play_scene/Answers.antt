@@ -1,5 +1,5 @@
 use Rattle.std.proofs.Common.{◌≡◌, ◌∙◌, List, ap, refl, subst}
-use Rattle.chv_defs_scene.specs.ScenarioText.{Sessions}
+use Rattle.chv_scene.specs.Played.{Sessions}
 use Rattle.chv_defs.specs.Schedule.{schedule}
 use Rattle.chv_defs_api.specs.declared.shelf.OnShelf.{OnShelf}
 use Rattle.chv_control.specs.Shelf as control

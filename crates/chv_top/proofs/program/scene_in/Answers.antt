@@ -10,10 +10,10 @@ pub returns-clause-ok : goal.returns-clause-ok
 returns-clause-ok g c =
     scene_read _ _ _ _ c.in-Ok.text.items _ c.as_slice.ensures.value
     (read_whole _ _ c.in-Ok.text.items c.in-Ok.ensures.ok (omega (arith, c.is_too_long.ensures.short c.if-is_too_long.false, c.len.ensures)))
-    c.read.ensures.answer c.read.ensures.few c.or_stop.ensures
+    c.read_played.ensures.answer c.read_played.ensures.few c.or_stop.ensures
 
 pub returns-clause-err : goal.returns-clause-err
 returns-clause-err g c =
     scene_stops _ _ _ _ _ _ c.in-Ok.text.items _ c.as_slice.ensures.value
     (read_whole _ _ c.in-Ok.text.items c.in-Ok.ensures.ok (omega (arith, c.is_too_long.ensures.short c.if-is_too_long.false, c.len.ensures)))
-    c.read.ensures.answer c.or_stop.ensures
+    c.read_played.ensures.answer c.or_stop.ensures
