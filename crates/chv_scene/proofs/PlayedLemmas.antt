@@ -1,8 +1,7 @@
 -- What of a scenario is played.
-use Rattle.std.proofs.Common.{◌≡◌, ℕ, ◌+◌, ◌^◌, ◌<◌, ◌≤◌, ◌==◌, Bool, false, List, [], ◌∷◌, ◌++◌, length, flat_map, codes, None, Some, Result, Ok, Err, refl, sym, ◌∙◌, ap, subst, length-append, arith}
+use Rattle.std.proofs.Common.{◌≡◌, ℕ, ◌+◌, ◌^◌, ◌<◌, ◌≤◌, List, [], ◌∷◌, ◌++◌, length, flat_map, codes, None, Some, Result, Ok, Err, sym, ◌∙◌, ap, subst, length-append, arith}
 use Rattle.chv_defs_scene.specs.declared.scene.Asked.{Asked}
 use Rattle.chv_defs_scene.specs.declared.scene.Asked.TheVariants as asked
-use Rattle.chv_defs_scene.specs.declared.scene.VcpuSection.{VcpuSection}
 use Rattle.chv_defs_scene.specs.declared.scene.Scene.{Scene}
 use Rattle.chv_defs_scene.specs.ScenarioText.{Fault, read_scenario, IsScenario}
 use Rattle.chv_defs_scene.specs.SceneText.{vcpu_section, request_line, session_section, order_section, scene_text}

@@ -1,7 +1,7 @@
 -- The line of a request is read as it.
-use Rattle.std.proofs.Common.{◌≡◌, ℕ, ◌<◌, ◌==◌, ◌&&◌, not, nat_lt, nat_le, Bool, true, false, cond, List, [], ◌∷◌, ◌++◌, length, codes, Option, None, Some, Ok, Err, refl, sym, ◌∙◌, ap, append_assoc, arith}
+use Rattle.std.proofs.Common.{◌≡◌, ℕ, ◌<◌, ◌==◌, ◌&&◌, not, nat_lt, nat_le, Bool, true, false, cond, List, [], ◌∷◌, ◌++◌, length, codes, Option, None, Some, Ok, Err, refl, ◌∙◌, ap, append_assoc, arith}
 use Rattle.std.specs.List.{list_all}
-use Rattle.std.proofs.lemmas.Bool.{and_parts, and_from, or_from, cond-true, cond-false, ne_eqb, ltb-true}
+use Rattle.std.proofs.lemmas.Bool.{and_parts, and_from, or_from, cond-true, cond-false, ltb-true}
 use Rattle.chv_defs_base.specs.Numbers.{is_hex_digit, pairs, bytes_of}
 use Rattle.chv_defs_scene.specs.ScenarioLines.{Line, lines_of, onto_line, at_space, has_space, is_route_byte, is_route_name, Has, named, put_name, raw_bytes, session_line}
 use Rattle.chv_defs_scene.specs.ScenarioText.{is_request}
@@ -11,6 +11,7 @@ use Rattle.chv_defs_scene.specs.declared.scene.Asked.TheVariants as asked
 use Rattle.chv_defs_base.specs.declared.rule.Reason.TheVariants.{BadName, FieldCount}
 use Rattle.chv_num.proofs.PairBytes.{pairs_digits, byte_at}
 use Rattle.chv_num.proofs.PairSpelling.{pairs_read_back}
+use Rattle.chv_script.proofs.KindLemmas.{all_so, other_byte}
 use Rattle.chv_scene.proofs.RequestLemmas.{no_feed}
 
 -- ---- the first line and the first field of a text
@@ -57,17 +58,6 @@ one_field (b ∷ bytes) h =
     or_from _ _ (not_is (b == 32) parts.0) (one_field bytes parts.1)
 
 -- ---- names and pairs
-
--- what holds of each byte of a kind holds of each byte of a text of that kind
-all_so : (p q : ℕ → Bool) → ((b : ℕ) → p b ≡ true → q b ≡ true) → (text : List ℕ) → list_all p text ≡ true → list_all q text ≡ true
-all_so p q h [] e = refl
-all_so p q h (b ∷ bytes) e =
-    let parts = and_parts (p b) (list_all p bytes) e in
-    and_from _ _ (h b parts.0) (all_so p q h bytes parts.1)
-
--- a byte that is not of a kind is no byte of that kind
-other_byte : (p : ℕ → Bool) (at b : ℕ) → p at ≡ false → p b ≡ true → not (b == at) ≡ true
-other_byte p at b other is = ap not (ne_eqb b at (λ e. let both : true ≡ false = sym is ∙ (ap p e ∙ other) in cc))
 
 name_parts : (name : List ℕ) → is_route_name name ≡ true → list_all is_route_byte name ≡ true
 name_parts name h = (and_parts (nat_le 1 (length name) && nat_le (length name) 32) (list_all is_route_byte name) h).1

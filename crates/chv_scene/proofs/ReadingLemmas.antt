@@ -1,7 +1,6 @@
 -- How a reading goes on by a line.
 use Rattle.std.proofs.Common.{◌≡◌, ℕ, ◌+◌, Bool, true, false, List, [], ◌∷◌, ◌++◌, length, map, is_some, Option, None, Some, Result, Ok, Err, refl, sym, ◌∙◌, ap, ap₂, subst, append_assoc, length-append}
 use Rattle.chv_defs_base.specs.declared.rule.Reason.{Reason}
-use Rattle.chv_defs_base.specs.declared.rule.Reason.TheVariants.{Unended}
 use Rattle.chv_defs_scene.specs.declared.scene.Asked.{Asked}
 use Rattle.chv_defs_scene.specs.declared.scene.OrderStep.{OrderStep}
 use Rattle.chv_defs_scene.specs.declared.scene.Line.{Line as Instruction}
@@ -82,10 +81,6 @@ whole text = record { text = text; is_ended = true }
 -- what is read by what such a line opens
 outside_by : Done → ℕ → List Line → Result Opening Reason → Result Scene Fault
 outside_by d n lines opens = of_scene (with_done d) (top_part n (before d) opens (λ place now. read_lines place now (n + 1) lines))
-
-pub outside_fails : (d : Done) (text : List ℕ) (reason : Reason) → top_word (before d) (at_space text).0 (at_space text).1 ≡ Err reason → (n : ℕ) (lines : List Line) → read_from d section_of.Outside n (whole text ∷ lines) ≡ failed n reason
-unfolding outside_by
-outside_fails d text reason e n lines = ap (outside_by d n lines) e
 
 -- an open script, by its parts
 script_by : Done → ℕ → List Line → ℕ → ℕ → List Instruction → Result Scene Fault
@@ -281,13 +276,6 @@ top_goes old new p text found o lines out same is opens begun =
     let goes = opens_on old.done new text o lines (by_passed old.done p text found same is ∙ ap opening_of opens) begun in
     record { read = λ n. ap (λ op. read_from old.done op n (whole text ∷ lines)) (is_out old.open out) ∙ goes.0 n; fits = goes.1 }
 
--- one that fails
-pub top_fails : (old new : Reading) (p : Passed) (text : List ℕ) (found : Result Opens Reason) (reason : Reason) (lines : List Line) → is_outside old.open ≡ true → before_of p ≡ before old.done → opening_of found ≡ top_word (before_of p) (at_space text).0 (at_space text).1 → found ≡ Err reason → GoesOn old new (whole text) lines (Some reason)
-top_fails old new p text found reason lines out same is fails = record {
-  read = λ n. ap (λ op. read_from old.done op n (whole text ∷ lines)) (is_out old.open out) ∙ outside_fails old.done text reason (by_passed old.done p text found same is ∙ ap opening_of fails) n lines;
-  fits = tt;
-}
-
 -- a line of the open section, behind which it goes on
 pub next_goes : (old new : Reading) (text : List ℕ) (went : Result Bool Reason) → new.done ≡ old.done → WentInside old.open new.open went text → went ≡ Ok true → (lines : List Line) → FitsOpen old.open (whole text ∷ lines) → GoesOn old new (whole text) lines None
 next_goes old new text went done is on lines fits =
@@ -307,18 +295,5 @@ next_ends old mid new text went done is off shut out lines fits = record {
 pub next_fails : (old new : Reading) (text : List ℕ) (went : Result Bool Reason) (reason : Reason) → WentInside old.open new.open went text → went ≡ Err reason → (lines : List Line) → FitsOpen old.open (whole text ∷ lines) → GoesOn old new (whole text) lines (Some reason)
 next_fails old new text went reason is fails lines fits = record {
   read = inside_fails old.done old.open new.open text reason lines (subst (λ w. WentInside old.open new.open w text) fails is) fits;
-  fits = tt;
-}
-
--- a line without its line feed
-unended : (d : Done) (o : Open) (text : List ℕ) (n : ℕ) (lines : List Line) → read_from d o n (record { text = text; is_ended = false } ∷ lines) ≡ failed n Unended
-unended d section_of.Outside text n lines = refl
-unended d (section_of.Script s) text n lines = refl
-unended d (section_of.Session s) text n lines = refl
-unended d (section_of.Order s) text n lines = refl
-
-pub unended_fails : (r : Reading) (text : List ℕ) (v : Bool) (lines : List Line) → v ≡ false → GoesOn r r (record { text = text; is_ended = v }) lines (Some Unended)
-unended_fails r text v lines none = record {
-  read = λ n. ap (λ w. resumed r n (record { text = text; is_ended = w } ∷ lines)) none ∙ unended r.done r.open text n lines;
   fits = tt;
 }

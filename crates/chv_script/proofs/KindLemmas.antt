@@ -47,14 +47,14 @@ kept_again test reason found x is good = ap (kept test reason) is ∙ cond-true 
 -- ---- texts without a space and a line feed
 
 -- what holds of each byte of a kind holds of each byte of a text of that kind
-all_so : (p q : ℕ → Bool) → ((b : ℕ) → p b ≡ true → q b ≡ true) → (text : List ℕ) → list_all p text ≡ true → list_all q text ≡ true
+pub all_so : (p q : ℕ → Bool) → ((b : ℕ) → p b ≡ true → q b ≡ true) → (text : List ℕ) → list_all p text ≡ true → list_all q text ≡ true
 all_so p q h [] e = refl
 all_so p q h (b ∷ bytes) e =
     let parts = and_parts (p b) (list_all p bytes) e in
     and_from _ _ (h b parts.0) (all_so p q h bytes parts.1)
 
 -- a byte that is not of a kind is no byte of that kind
-other_byte : (p : ℕ → Bool) (at b : ℕ) → p at ≡ false → p b ≡ true → not (b == at) ≡ true
+pub other_byte : (p : ℕ → Bool) (at b : ℕ) → p at ≡ false → p b ≡ true → not (b == at) ≡ true
 other_byte p at b other is = ap not (ne_eqb b at (λ e. let both : true ≡ false = sym is ∙ (ap p e ∙ other) in cc))
 
 -- a text of bytes of which a space and a line feed are none
