@@ -58,18 +58,11 @@ fn push_vcpus(alloc: Global, shown: &mut Vec<u8>, vcpus: &[VcpuSection]) -> Resu
 fn push_vcpu(alloc: Global, shown: &mut Vec<u8>, section: &VcpuSection) -> Result<(), AllocError>
     ensures { OnOk result (shown.new.items ≡ shown.old.items ++ text.vcpu_section section.now) }
 {
-    let head = vcpu_line(alloc, section.vcpu, section.fuel)?;
+    let head = chv_script::vcpu_line(alloc, section.vcpu, section.fuel)?;
     let script = chv_script::print(alloc, &section.script)?;
     shown.extend_from_slice(head.as_bytes())?;
     shown.extend_from_slice(script.as_str().as_bytes())?;
     shown.extend_from_slice(b"end\n")
-}
-
-#[tactic(auto, using(crate::proofs::Printed::regrouped))]
-fn vcpu_line(alloc: Global, vcpu: u8, fuel: u64) -> Result<String, AllocError>
-    ensures { IfOk result (λ line. string_bytes line ≡ codes "vcpu" ++ field (dec_text vcpu) ++ field (dec_text fuel) ++ codes "\n") }
-{
-    format!(in alloc; "vcpu {vcpu} {fuel}\n")
 }
 
 fn push_sessions(

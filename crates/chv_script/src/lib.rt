@@ -16,6 +16,6 @@ pub use laws::{
     printed_is_read_back, reads_exactly_the_scripts, refusal_names_the_first_fault,
     script_has_one_spelling,
 };
-pub use printing::print;
+pub use printing::{line_text, print, vcpu_line};
 pub use reading::{ScriptFault, read};
 pub use state::checked_line;

@@ -1,5 +1,6 @@
 // Scripts, printed.
-ghost use Rattle.std.specs.Prelude.{◌≡◌, ◌++◌, IfOk, string_bytes};
+ghost use Rattle.std.specs.Prelude.{◌≡◌, ◌++◌, IfOk, codes, string_bytes};
+ghost use Rattle.chv_defs_base.specs.Numbers.{dec_text};
 ghost use Rattle.chv_defs_scene.specs.ScriptText as text;
 
 use chv_defs_base::Text;
@@ -19,8 +20,16 @@ pub fn print(alloc: Global, script: &Script) -> Result<Text, AllocError>
     Ok(Text::new(shown))
 }
 
-// An instruction, without its line feed.
-fn line_text(alloc: Global, line: &Line) -> Result<String, AllocError>
+/// The first line of a vCPU's section, with its line feed: the number of the vCPU, and how many instructions it may execute.
+#[tactic(auto, using(crate::proofs::Printed::regrouped))]
+pub fn vcpu_line(alloc: Global, vcpu: u8, fuel: u64) -> Result<String, AllocError>
+    ensures { IfOk result (λ line. string_bytes line ≡ codes "vcpu" ++ text.field (dec_text vcpu) ++ text.field (dec_text fuel) ++ codes "\n") }
+{
+    format!(in alloc; "vcpu {vcpu} {fuel}\n")
+}
+
+/// An instruction, without its line feed.
+pub fn line_text(alloc: Global, line: &Line) -> Result<String, AllocError>
     ensures { IfOk result (λ shown. string_bytes shown ≡ text.line_text line.now) }
 {
     match line {
