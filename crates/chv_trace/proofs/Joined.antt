@@ -1,17 +1,19 @@
 -- Texts that are joined, and the parts of a trace's text.
-use Rattle.std.proofs.Common.{◌≡◌, ℕ, ◌+◌, ◌<◌, List, [], ◌∷◌, ◌++◌, length, take, drop, get_or, flat_map, codes, decimal, Result, Ok, Err, IfOk, sym, ◌∙◌, ap, append_assoc}
+use Rattle.std.proofs.Common.{◌≡◌, ℕ, ◌+◌, ◌<◌, List, [], ◌∷◌, ◌++◌, length, take, drop, get_or, flat_map, sum_by, codes, decimal, Result, Ok, Err, IfOk, sym, ◌∙◌, ap, append_assoc, zero-add}
 use Rattle.std.proofs.lemmas.List.{append-nil, take-append-drop}
 use Rattle.std.proofs.lemmas.Grind.{take_at_read, flat_map-append}
-use Rattle.chv_defs_scene.specs.ScriptText.{field}
-use Rattle.chv_defs.specs.TraceText.{pairs_or_dash, control_line, bank_line, bank_part, session_end_text, session_part, trace_text}
+use Rattle.chv_defs_scene.specs.ScriptText.{field, line_text}
+use Rattle.chv_defs_scene.specs.SceneText.{disk_line, vcpu_section}
+use Rattle.chv_defs.specs.TraceText.{pairs_or_dash, control_line, control_part, bank_line, bank_part, scene_part, session_end_text, session_part, trace_text}
 use Rattle.chv_defs_memory.specs.declared.bank.BankEntry.{BankEntry}
 use Rattle.chv_defs_api.specs.declared.control.ControlEntry.{ControlEntry}
+use Rattle.chv_defs_scene.specs.declared.scene.Line.{Line}
 use Rattle.chv_defs_scene.specs.declared.scene.MadeDisk.{MadeDisk}
 use Rattle.chv_defs_scene.specs.declared.scene.VcpuSection.{VcpuSection}
 use Rattle.chv_defs.specs.declared.trace.BankTrace.{BankTrace}
 use Rattle.chv_defs.specs.declared.trace.SessionTrace.{SessionTrace}
 use Rattle.chv_defs.specs.declared.trace.Trace.{Trace}
-use Rattle.chv_trace.specs.Printing.{head_text, end_line, bank_head}
+use Rattle.chv_trace.specs.Printing.{scene_head, control_head, end_line, bank_head}
 
 pub regrouped : (a b c : List ℕ) → (a ++ b) ++ c ≡ a ++ (b ++ c)
 regrouped a b c = append_assoc a b c
@@ -65,33 +67,49 @@ session_lines s = session_joined (decimal s.session) (session_end_text s.log.end
 pub bank_lines : (b : BankTrace) (entries : List BankEntry) → entries ≡ b.entries → bank_head b ++ flat_map bank_line entries ≡ bank_part b
 bank_lines b entries same = ap (λ (l : List BankEntry). bank_head b ++ flat_map bank_line l) same
 
-begin_regrouped : (t u z l k n c : List ℕ) → ((t ++ u) ++ z ++ (l ++ k) ++ n ++ l) ++ c ≡ t ++ (u ++ z ++ l ++ [] ++ []) ++ (k ++ n ++ l ++ c)
-begin_regrouped t u z l k n c = simp (append_assoc, append-nil)
+-- the control book's lines
+pub control_lines : (head : List ℕ) (entries : List ControlEntry) → head ≡ control_head (length entries) → head ++ flat_map control_line entries ≡ control_part entries
+control_lines head entries is = ap (λ h. h ++ flat_map control_line entries) is
 
--- the lines before the banks
-begin : (z n c : List ℕ) → (codes "trace 1\nscene" ++ field z ++ codes "\ncontrol" ++ field n ++ codes "\n") ++ c
-    ≡ codes "trace 1\n" ++ (codes "scene" ++ field z ++ codes "\n" ++ [] ++ []) ++ (codes "control" ++ field n ++ codes "\n" ++ c)
-begin z n c = begin_regrouped (codes "trace 1\n") (codes "scene") (field z) (codes "\n") (codes "control") (field n) c
+-- a vCPU's lines
+pub vcpu_lines : (v : VcpuSection) (head : List ℕ) (instructions : List Line) → head ≡ codes "vcpu" ++ field (decimal v.vcpu) ++ field (decimal v.fuel) ++ codes "\n" → instructions ≡ v.script.lines
+    → head ++ flat_map (λ l. line_text l ++ codes "\n") instructions ++ codes "end\n" ≡ vcpu_section v
+vcpu_lines v head instructions is same =
+    ap (λ h. h ++ flat_map (λ l. line_text l ++ codes "\n") instructions ++ codes "end\n") is
+    ∙ ap (λ (ls : List Line). codes "vcpu" ++ field (decimal v.vcpu) ++ field (decimal v.fuel) ++ codes "\n" ++ flat_map (λ l. line_text l ++ codes "\n") ls ++ codes "end\n") same
 
--- a trace without disks and scripts
-abbrev plain_trace : List ControlEntry → List BankTrace → List SessionTrace → Trace
-plain_trace control banks sessions = record { disks = []; vcpus = []; control = control; banks = banks; sessions = sessions }
+scene_regrouped : (t u z l c : List ℕ) → ((t ++ u) ++ z ++ l) ++ c ≡ t ++ (u ++ z ++ l ++ [] ++ c)
+scene_regrouped t u z l c = simp (append_assoc, append-nil)
 
-is_plain : (t : Trace) → t.disks ≡ [] → t.vcpus ≡ [] → t ≡ plain_trace t.control t.banks t.sessions
-is_plain t d v =
-    let with_disks : List MadeDisk → Trace = λ x. record { disks = x; vcpus = t.vcpus; control = t.control; banks = t.banks; sessions = t.sessions } in
-    let with_vcpus : List VcpuSection → Trace = λ x. record { disks = []; vcpus = x; control = t.control; banks = t.banks; sessions = t.sessions } in
-    ap with_disks d ∙ ap with_vcpus v
+scene_joined : (z c : List ℕ) → (codes "trace 1\nscene" ++ field z ++ codes "\n") ++ c ≡ codes "trace 1\n" ++ (codes "scene" ++ field z ++ codes "\n" ++ [] ++ c)
+scene_joined z c = scene_regrouped (codes "trace 1\n") (codes "scene") (field z) (codes "\n") c
 
-plain_text : (t : Trace) → t.disks ≡ [] → t.vcpus ≡ [] → head_text (length t.control) ++ flat_map control_line t.control ++ flat_map bank_part t.banks ++ flat_map session_part t.sessions ++ codes "end\n" ≡ trace_text t
-plain_text t d v =
-    ap (λ l. l ++ flat_map bank_part t.banks ++ flat_map session_part t.sessions ++ codes "end\n") (begin (decimal 0) (decimal (length t.control)) (flat_map control_line t.control))
-    ∙ ap trace_text (sym (is_plain t d v))
+-- how many lines sections of vCPUs have
+abbrev pub lines_in : List VcpuSection → ℕ
+lines_in vcpus = sum_by (λ (v : VcpuSection). length v.script.lines + 2) vcpus
+
+-- the first line of a trace, and the part of a scenario with these disks and vCPUs
+abbrev scene_with : List MadeDisk → List VcpuSection → List ℕ
+scene_with disks vcpus = codes "trace 1\n" ++ (codes "scene" ++ field (decimal (length disks + lines_in vcpus)) ++ codes "\n" ++ flat_map disk_line disks ++ flat_map vcpu_section vcpus)
+
+-- the lines of the scenario
+pub scene_sections : (t : Trace) (head : List ℕ) (n : ℕ) (vcpus : List VcpuSection) → t.disks ≡ [] → head ≡ scene_head n → n ≡ lines_in vcpus → vcpus ≡ t.vcpus
+    → head ++ flat_map vcpu_section vcpus ≡ codes "trace 1\n" ++ scene_part t
+scene_sections t head n vcpus none is count same =
+    ap (λ h. h ++ flat_map vcpu_section vcpus) (is ∙ ap scene_head (count ∙ sym (zero-add (lines_in vcpus))))
+    ∙ scene_joined (decimal (0 + lines_in vcpus)) (flat_map vcpu_section vcpus)
+    ∙ ap (λ (vs : List VcpuSection). scene_with [] vs) same
+    ∙ ap (λ (ds : List MadeDisk). scene_with ds t.vcpus) (sym none)
 
 -- the parts that are added make a trace's text
-pub trace_parts : (t : Trace) (n : ℕ) (control : List ControlEntry) (banks : List BankTrace) (sessions : List SessionTrace) → t.disks ≡ [] → t.vcpus ≡ [] → n ≡ length t.control → control ≡ t.control → banks ≡ t.banks → sessions ≡ t.sessions
-    → head_text n ++ flat_map control_line control ++ flat_map bank_part banks ++ flat_map session_part sessions ++ codes "end\n" ≡ trace_text t
-trace_parts t n control banks sessions d v e f g h = rw (e, f, g, h) (plain_text t d v)
+pub trace_parts : (t : Trace) (control : List ControlEntry) (banks : List BankTrace) (sessions : List SessionTrace) → control ≡ t.control → banks ≡ t.banks → sessions ≡ t.sessions
+    → (codes "trace 1\n" ++ scene_part t) ++ control_part control ++ flat_map bank_part banks ++ flat_map session_part sessions ++ codes "end\n" ≡ trace_text t
+trace_parts t control banks sessions e f g =
+    let with_parts : List ControlEntry → List BankTrace → List SessionTrace → List ℕ = λ cs bs ss.
+    (codes "trace 1\n" ++ scene_part t) ++ control_part cs ++ flat_map bank_part bs ++ flat_map session_part ss ++ codes "end\n" in
+    ap (λ cs. with_parts cs banks sessions) e
+    ∙ ap (λ bs. with_parts t.control bs sessions) f
+    ∙ ap (λ ss. with_parts t.control t.banks ss) g
 
 -- ---- what follows a part
 

@@ -21,9 +21,13 @@ pub record BreaksOff (before : Option (List ℕ)) (held : List ℕ) (after : Opt
   pub gains : Gains before after put
   pub all : put ++ lost ≡ held ++ bytes
 
--- the lines before the control entries, where a trace has no disks and scripts
-abbrev pub head_text : ℕ → List ℕ
-head_text entries = codes "trace 1\nscene" ++ field (dec_text 0) ++ codes "\ncontrol" ++ field (dec_text entries) ++ codes "\n"
+-- the first line of a trace, and the line that says how many lines the sections of its scenario have
+abbrev pub scene_head : ℕ → List ℕ
+scene_head lines = codes "trace 1\nscene" ++ field (dec_text lines) ++ codes "\n"
+
+-- the line that says how many control entries there are
+abbrev pub control_head : ℕ → List ℕ
+control_head entries = codes "control" ++ field (dec_text entries) ++ codes "\n"
 
 -- the first line of a session
 abbrev pub end_line : SessionTrace → List ℕ

@@ -12,6 +12,7 @@ mod pieces;
 mod print_error;
 mod printer;
 mod replies;
+mod scene;
 mod sessions;
 
 pub use print_error::PrintError;

@@ -1,8 +1,8 @@
 // The printer of traces.
 ghost use Rattle.std.specs.Prelude.{◌≡◌, ◌≤◌, ◌++◌, [], IfOk, OnOk, OnErr, flat_map, string_bytes};
 ghost use Rattle.chv_io.specs.Outside.{Rose, Gains, GainsPart};
-ghost use Rattle.chv_defs.specs.TraceText.{control_line, trace_text};
-ghost use Rattle.chv_trace.specs.Printing.{Adds, BreaksOff, head_text};
+ghost use Rattle.chv_defs.specs.TraceText.{control_line, control_part, trace_text};
+ghost use Rattle.chv_trace.specs.Printing.{Adds, BreaksOff, control_head};
 
 use crate::PrintError;
 use crate::banks::push_banks;
@@ -10,17 +10,17 @@ use crate::calls::call_text;
 use crate::lines::{Line, push_lines};
 use crate::pieces::{push, put_all};
 use crate::replies::reply_text;
+use crate::scene::push_scene;
 use crate::sessions::push_sessions;
 use chv_defs::{ControlEntry, Trace};
 use chv_io::Sink;
 use std::alloc::{AllocError, Global};
 
 /// Puts the text of a trace into an output, piece by piece: beside one line, no more than a piece of 65,536 bytes is
-/// held at a time. A trace has no disks and scripts here. `Memory` may come where memory is wanted, `Failed`
+/// held at a time. The scenario of the trace makes no disk here. `Memory` may come where memory is wanted, `Failed`
 /// comes where the output fails; after either the output has a first part of the text.
 pub fn print<K: Sink>(alloc: Global, trace: &Trace, out: &mut K) -> Result<(), PrintError>
     requires disks { trace.now.disks ≡ [] }
-    requires vcpus { trace.now.vcpus ≡ [] }
     ensures ok { OnOk result (Gains (K.written out.old) (K.written out.new) (trace_text trace.now)) }
     ensures part { OnErr result (GainsPart (K.written out.old) (K.written out.new) (trace_text trace.now)) }
     ensures cause { result ≡ Err PrintError.Failed → Rose (K.write_faults out.old) (K.write_faults out.new) }
@@ -38,40 +38,39 @@ fn push_trace<K: Sink>(
     trace: &Trace,
 ) -> Result<(), PrintError>
     requires disks { trace.now.disks ≡ [] }
-    requires vcpus { trace.now.vcpus ≡ [] }
     ensures ok { OnOk result (Adds (K.written out.old) (string_bytes buffer.old) (K.written out.new) (string_bytes buffer.new) (trace_text trace.now)) }
     ensures part { OnErr result (BreaksOff (K.written out.old) (string_bytes buffer.old) (K.written out.new) (trace_text trace.now)) }
     ensures cause { result ≡ Err PrintError.Failed → Rose (K.write_faults out.old) (K.write_faults out.new) }
     ensures later { K.write_faults out.old ≤ K.write_faults out.new }
 {
-    push_head(alloc, out, buffer, trace.control.len())?;
-    push_lines(alloc, out, buffer, trace.control.as_slice())?;
+    push_scene(alloc, out, buffer, trace)?;
+    push_control(alloc, out, buffer, trace.control.as_slice())?;
     push_banks(alloc, out, buffer, trace.banks.as_slice())?;
     push_sessions(alloc, out, buffer, trace.sessions.as_slice())?;
     push(out, buffer, "end\n")
 }
 
-// The lines before the control entries, of which the sections of disks and scripts are none.
-fn push_head<K: Sink>(
+// The control book: how many entries it has, and these.
+fn push_control<K: Sink>(
     alloc: Global,
     out: &mut K,
     buffer: &mut String,
-    entries: usize,
+    entries: &[ControlEntry],
 ) -> Result<(), PrintError>
-    ensures ok { OnOk result (Adds (K.written out.old) (string_bytes buffer.old) (K.written out.new) (string_bytes buffer.new) (head_text entries)) }
-    ensures part { OnErr result (BreaksOff (K.written out.old) (string_bytes buffer.old) (K.written out.new) (head_text entries)) }
+    ensures ok { OnOk result (Adds (K.written out.old) (string_bytes buffer.old) (K.written out.new) (string_bytes buffer.new) (control_part entries.now)) }
+    ensures part { OnErr result (BreaksOff (K.written out.old) (string_bytes buffer.old) (K.written out.new) (control_part entries.now)) }
     ensures cause { result ≡ Err PrintError.Failed → Rose (K.write_faults out.old) (K.write_faults out.new) }
     ensures later { K.write_faults out.old ≤ K.write_faults out.new }
 {
-    let head = head(alloc, entries)?;
-    push(out, buffer, head.as_str())
+    let head = control_head(alloc, entries.len())?;
+    push(out, buffer, head.as_str())?;
+    push_lines(alloc, out, buffer, entries)
 }
 
-fn head(alloc: Global, entries: usize) -> Result<String, AllocError>
-    ensures { IfOk result (λ head. string_bytes head ≡ head_text entries) }
+fn control_head(alloc: Global, entries: usize) -> Result<String, AllocError>
+    ensures { IfOk result (λ head. string_bytes head ≡ control_head entries) }
 {
-    let lines = 0u64;
-    format!(in alloc; "trace 1\nscene {lines}\ncontrol {entries}\n")
+    format!(in alloc; "control {entries}\n")
 }
 
 impl Line for ControlEntry {

@@ -1,6 +1,6 @@
 use Rattle.std.proofs.Common.{arith}
 use Rattle.chv_trace.proofs.Joined.{regrouped}
-use Rattle.chv_trace.proofs.printer.head.Goals as goal
+use Rattle.chv_trace.proofs.printer.control_head.Goals as goal
 
 pub returns : goal.returns
 returns c = grind (arith, regrouped)
