@@ -7,6 +7,7 @@ mod kinds;
 mod lines;
 mod plays;
 mod trace_banks;
+mod trace_scenes;
 mod traces;
 
 use chv_tests_answers::cut;

@@ -1,14 +1,16 @@
-// Traces as they are printed (`chv_trace`): lines of calls and replies that no scenario has yet.
+// Traces as they are printed (`chv_trace`): what no scenario that is played comes to yet.
 ghost use Rattle.std.specs.Prelude.{◌≡◌, []};
 
 use crate::lines::with_lines;
 use crate::trace_banks::push_banks;
+use crate::trace_scenes::vcpus_of;
 use chv_defs::{
     BookId, BusyAt, Bytes, ContextNote, ControlCall, ControlEntry, ControlReply, CpuNote,
     DiskCount, HandNote, MemAnswer, MemRequest, QueueFault, QueueNote, RegAccess, Role, Row, Rule,
-    SessionEnd, SessionLog, SessionTrace, SliceEnd, Text, Trace,
+    SessionEnd, SessionLog, SessionTrace, SliceEnd, Text, Trace, VcpuSection,
 };
 use chv_io::MemSink;
+use chv_tests_answers::cut;
 use chv_trace::print;
 use std::alloc::{AllocError, Global};
 use std::io;
@@ -149,14 +151,13 @@ fn push_session(alloc: Global, sessions: &mut Row<SessionTrace>) -> Result<(), A
     sessions.push(SessionTrace { session: 1, log })
 }
 
-// A trace to which nothing happened.
-fn no_trace(alloc: Global) -> Trace
-    ensures disks { result.disks ≡ [] }
-    ensures vcpus { result.vcpus ≡ [] }
+// A run of a scenario with these sections of vCPUs, in which nothing happened.
+fn trace_of(alloc: Global, vcpus: Row<VcpuSection>) -> Trace
+    ensures { result.disks ≡ [] }
 {
     Trace {
         disks: Row::empty(alloc),
-        vcpus: Row::empty(alloc),
+        vcpus,
         control: Row::empty(alloc),
         banks: Row::empty(alloc),
         sessions: Row::empty(alloc),
@@ -165,8 +166,7 @@ fn no_trace(alloc: Global) -> Trace
 
 // The entries above, two banks, and a session.
 fn fill_all(alloc: Global, trace: &mut Trace) -> Result<(), AllocError>
-    ensures disks { trace.new.disks ≡ trace.old.disks }
-    ensures vcpus { trace.new.vcpus ≡ trace.old.vcpus }
+    ensures { trace.new.disks ≡ trace.old.disks }
 {
     push_entries(alloc, &mut trace.control)?;
     push_banks(alloc, &mut trace.banks)?;
@@ -175,8 +175,7 @@ fn fill_all(alloc: Global, trace: &mut Trace) -> Result<(), AllocError>
 
 // The lines of a trace.
 fn printed(alloc: Global, trace: &Trace) -> io::Result<String>
-    requires disks { trace.now.disks ≡ [] }
-    requires vcpus { trace.now.vcpus ≡ [] }
+    requires { trace.now.disks ≡ [] }
 {
     let mut out = MemSink::new(alloc, 2000, Row::empty(alloc))?;
     if print(alloc, trace, &mut out).is_err() {
@@ -185,16 +184,29 @@ fn printed(alloc: Global, trace: &Trace) -> io::Result<String>
     with_lines(alloc, "printed", out.written())
 }
 
-/// `trace guests`: how the trace is printed in which guests and queues make each call, and banks and sessions stand beside
-/// them.
-pub fn trace(alloc: Global, name: &str) -> io::Result<String> {
-    if name != "guests" {
-        return Err(io::Error::other("the case names no trace"));
-    }
-    let mut trace = no_trace(alloc);
+fn guests(alloc: Global) -> io::Result<String> {
+    let mut trace = trace_of(alloc, Row::empty(alloc));
     let filled = fill_all(alloc, &mut trace);
     let printed = printed(alloc, &trace);
     drop(trace);
     filled?;
     printed
+}
+
+fn sections(alloc: Global, scenario: &str) -> io::Result<String> {
+    let vcpus = vcpus_of(alloc, scenario)?;
+    let trace = trace_of(alloc, vcpus);
+    printed(alloc, &trace)
+}
+
+/// `trace guests`: how the trace is printed in which guests and queues make each call, and banks and sessions stand beside
+/// them. `trace sections SCENARIO`: how the trace of this scenario is printed where nothing happened, with its sections of
+/// vCPUs.
+pub fn trace(alloc: Global, words: &str) -> io::Result<String> {
+    let (name, scenario) = cut(words, ' ');
+    match name {
+        "guests" => guests(alloc),
+        "sections" => sections(alloc, scenario),
+        _ => Err(io::Error::other("the case names no trace")),
+    }
 }

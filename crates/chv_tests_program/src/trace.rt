@@ -44,8 +44,7 @@ type Printed = (Result<(), PrintError>, usize);
 
 // What comes of printing a trace where the call of the output with this number fails.
 fn printed(alloc: Global, trace: &Trace, failing: u64) -> Result<Printed, AllocError>
-    requires disks { trace.now.disks ≡ [] }
-    requires vcpus { trace.now.vcpus ≡ [] }
+    requires { trace.now.disks ≡ [] }
 {
     let mut out = MemSink::new(alloc, 200_000, numbers(alloc, &[failing])?)?;
     Ok((print(alloc, trace, &mut out), out.written().len()))
