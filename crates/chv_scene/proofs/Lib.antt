@@ -1,12 +1,17 @@
+pub mod BeginsLemmas
 pub mod CutLemmas
 pub mod FieldLemmas
 pub mod GrammarLemmas
+pub mod LabelsLeft
+pub mod LowestLemmas
+pub mod NextLemmas
 pub mod OpeningLemmas
 pub mod OrderLemmas
 pub mod PlayedLemmas
 pub mod Printed
 pub mod ReadBackLemmas
 pub mod ReadingLemmas
+pub mod RefusalLemmas
 pub mod RequestLemmas
 pub mod ScriptLemmas
 pub mod SpellingLemmas

@@ -113,7 +113,7 @@ line_instructed before text true lines l e =
     record { fed = refl; word = is.0; between = is.1; is = line_read before text (script_lines lines) l is.1; room = found.1 }
 line_instructed before text false lines l e = absurd (cc)
 
-chosen_end : (v : Bool) (fields : Option (List ℕ)) (found : Result Instruction Reason) → cond v (end_line fields) (instructed found) ≡ Ok Ends → (v ≡ true) × (fields ≡ None)
+pub chosen_end : (v : Bool) (fields : Option (List ℕ)) (found : Result Instruction Reason) → cond v (end_line fields) (instructed found) ≡ Ok Ends → (v ≡ true) × (fields ≡ None)
 chosen_end true None found e = (refl, refl)
 chosen_end true (Some fields) found e = absurd (cc)
 chosen_end false fields found e = instructed_ends found _ e

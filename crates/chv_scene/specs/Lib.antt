@@ -3,4 +3,5 @@ pub mod Cuts
 pub mod Meanings
 pub mod Played
 pub mod Reading
+pub mod Refusals
 pub mod Scripts
