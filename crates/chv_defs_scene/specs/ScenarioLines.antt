@@ -2,7 +2,7 @@
 -- no line feed fails as that. Else its word is looked at first, then the number of fields, then the fields from the left, and
 -- then whether it may stand there; of a script's line its labels are looked at before that.
 -- Not built yet are lines of disks: where the format takes one, it is refused as NotBuilt.
-use Rattle.std.specs.Prelude.{ℕ, ◌+◌, ◌==◌, ◌&&◌, ◌||◌, not, nat_le, nat_lt, Bool, true, false, if◌then◌else◌, List, [], ◌∷◌, length, codes, Option, None, Some, Result, Ok, Err}
+use Rattle.std.specs.Prelude.{ℕ, ◌==◌, ◌&&◌, ◌||◌, not, nat_le, nat_lt, Bool, true, false, if◌then◌else◌, List, [], ◌∷◌, length, codes, Option, None, Some, Result, Ok, Err}
 use Rattle.std.specs.List.{list_all, list_any}
 use Rattle.std.specs.Str.{bytes_eq}
 use Rattle.chv_defs_scene.specs.declared.scene.Asked.{Asked}

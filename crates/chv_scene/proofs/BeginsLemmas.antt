@@ -1,5 +1,5 @@
 -- Some scenario begins with the lines before the one that fails.
-use Rattle.std.proofs.Common.{◌≡◌, ℕ, ◌+◌, ◌≤◌, ◌&&◌, not, nat_lt, Bool, true, false, cond, List, [], ◌∷◌, ◌++◌, length, take, codes, Option, None, Some, Result, Ok, Err, refl, sym, ◌∙◌, ap, ap₂, subst, append_assoc, length-append, arith}
+use Rattle.std.proofs.Common.{◌≡◌, ℕ, ◌+◌, ◌≤◌, not, nat_lt, Bool, true, false, cond, List, [], ◌∷◌, ◌++◌, length, take, codes, Option, None, Some, Result, Ok, Err, refl, sym, ◌∙◌, ap, ap₂, subst, append_assoc, length-append, arith}
 use Rattle.std.specs.List.{list_all, list_any}
 use Rattle.std.specs.Str.{bytes_eq}
 use Rattle.std.proofs.lemmas.Bool.{and_parts, and_from, or_from}
@@ -12,19 +12,18 @@ use Rattle.chv_defs_scene.specs.declared.scene.Scene.{Scene}
 use Rattle.chv_defs_scene.specs.ScenarioLines.{Line, lines_of, at_space, Part, Has, Ends, most_lines, is_end, script_lines, script_line, Before, nothing_before, Opening, OpensVcpu, OpensSession, OpensOrder, session_opening, vcpu_opening, order_opening, disk_reason, top_word, top_line}
 use Rattle.chv_defs_scene.specs.ScenarioText.{Fault, Place, Outside, InScript, InSession, InOrder, read_lines, read_scenario, empty_scene, with_session, with_order}
 use Rattle.chv_defs_scene.specs.ScriptReading.{labels_of, has_label, target, is_missing, line_between}
-use Rattle.chv_defs_scene.specs.ScriptText.{line_text}
 use Rattle.chv_script.proofs.GrammarLemmas.{read_line}
 use Rattle.chv_scene.specs.Refusals.{HasRoom, BeginsScenario}
-use Rattle.chv_scene.proofs.SpellingLemmas.{by_test, with_feed, lines_text}
+use Rattle.chv_scene.proofs.SpellingLemmas.{by_test, lines_text}
 use Rattle.chv_scene.proofs.RequestLemmas.{no_feed, feedless, lines_feedless}
 use Rattle.chv_scene.proofs.ReadBackLemmas.{first_line}
 use Rattle.chv_scene.proofs.OpeningLemmas.{session_by, in_order_is}
 use Rattle.chv_scene.proofs.ScriptLemmas.{no_end, line_instructed, script_ended, lines_on}
 use Rattle.chv_scene.proofs.GrammarLemmas.{read_is_scenario}
 use Rattle.chv_scene.proofs.WholeLemmas.{instruction_read}
-use Rattle.chv_scene.proofs.NextLemmas.{Spot, went, opened, next, read_at, lines_fail, lines_go}
+use Rattle.chv_scene.proofs.NextLemmas.{Spot, went, opened, next, lines_fail, lines_go}
 use Rattle.chv_scene.proofs.LabelsLeft.{is_whole, rest_lines, rest_whole, rest_read, rest_keeps}
-use Rattle.chv_scene.proofs.LowestLemmas.{ends_too, unended, not_not, no_line}
+use Rattle.chv_scene.proofs.LowestLemmas.{ends_too, not_not, no_line}
 
 -- ---- labels that are kept
 

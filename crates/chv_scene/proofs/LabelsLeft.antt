@@ -1,5 +1,5 @@
 -- The labels that a script still needs: lines that have them, and the line that ends it.
-use Rattle.std.proofs.Common.{◌≡◌, ℕ, ◌+◌, ◌<◌, ◌≤◌, ◌&&◌, ◌||◌, not, Bool, true, false, cond, List, [], ◌∷◌, ◌++◌, length, map, codes, Option, None, Some, Ok, refl, sym, ◌∙◌, ap, ap₂, subst, append_assoc, append-nil, arith}
+use Rattle.std.proofs.Common.{◌≡◌, ℕ, ◌+◌, ◌≤◌, ◌&&◌, ◌||◌, Bool, true, false, cond, List, [], ◌∷◌, ◌++◌, length, map, codes, None, Some, Ok, refl, sym, ◌∙◌, ap, subst, append_assoc, arith}
 use Rattle.std.specs.List.{list_all, cons_option}
 use Rattle.std.specs.Str.{bytes_eq}
 use Rattle.std.proofs.lemmas.Bool.{and_parts, and_from}
@@ -10,7 +10,6 @@ use Rattle.std.proofs.lemmas.Slice.Eq.{bytes_eq-Decides}
 use Rattle.chv_defs_base.specs.Id.{is_id}
 use Rattle.chv_defs_scene.specs.declared.scene.Line.{Line as Instruction}
 use Rattle.chv_defs_scene.specs.declared.scene.Line.TheVariants as instruction
-use Rattle.chv_defs_scene.specs.declared.scene.Scene.{Scene}
 use Rattle.chv_defs_scene.specs.ScenarioLines.{Line, lines_of, script_lines, most_lines, Before}
 use Rattle.chv_defs_scene.specs.ScenarioText.{InScript, read_lines, empty_scene, section}
 use Rattle.chv_defs_scene.specs.ScriptReading.{fields_of, label_in, labels_of, has_label, is_instruction, read_behind}

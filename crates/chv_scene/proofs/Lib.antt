@@ -1,12 +1,15 @@
 pub mod BeginsLemmas
 pub mod CutLemmas
 pub mod FieldLemmas
+pub mod FieldReasons
 pub mod GrammarLemmas
+pub mod HeadReasons
 pub mod LabelsLeft
 pub mod LowestLemmas
 pub mod NextLemmas
 pub mod OpeningLemmas
 pub mod OrderLemmas
+pub mod OutlineLemmas
 pub mod PlayedLemmas
 pub mod Printed
 pub mod ReadBackLemmas
@@ -14,5 +17,6 @@ pub mod ReadingLemmas
 pub mod RefusalLemmas
 pub mod RequestLemmas
 pub mod ScriptLemmas
+pub mod SectionReasons
 pub mod SpellingLemmas
 pub mod WholeLemmas

@@ -1,33 +1,24 @@
 -- The line that a refusal names is the lowest with which no scenario goes on.
-use Rattle.std.proofs.Common.{◌≡◌, ℕ, zero, suc, ◌+◌, ◌<◌, ◌≤◌, ◌&&◌, ◌||◌, not, nat_lt, Bool, true, false, cond, List, [], ◌∷◌, ◌++◌, length, take, drop, codes, Option, None, Some, Result, Ok, Err, refl, sym, ◌∙◌, ap, ap₂, subst, append_assoc, append-nil, length-append, arith}
-use Rattle.std.specs.List.{list_all}
+use Rattle.std.proofs.Common.{◌≡◌, ℕ, zero, suc, ◌+◌, ◌<◌, ◌||◌, not, nat_lt, Bool, true, false, cond, List, [], ◌∷◌, ◌++◌, length, take, drop, codes, Option, None, Some, Result, Ok, Err, refl, sym, ◌∙◌, ap, ap₂, subst, append_assoc, arith}
 use Rattle.std.specs.Str.{bytes_eq}
-use Rattle.std.proofs.lemmas.Bool.{and_parts, and_from, cond-true, cond-false, lt-ltb}
-use Rattle.std.proofs.lemmas.List.{take_at, drop_at}
+use Rattle.std.proofs.lemmas.Bool.{cond-true, cond-false, lt-ltb}
+use Rattle.std.proofs.lemmas.List.{drop_at}
 use Rattle.std.proofs.lemmas.List.Elements.{filter_map-append}
-use Rattle.std.proofs.lemmas.Slice.Eq.{bytes_eq-Decides}
 use Rattle.chv_defs_base.specs.declared.rule.Reason.{Reason}
-use Rattle.chv_defs_base.specs.declared.rule.Reason.TheVariants.{UnknownWord, LabelTwice, UnknownLabel, TooMany, OutOfOrder}
+use Rattle.chv_defs_base.specs.declared.rule.Reason.TheVariants.{LabelTwice, UnknownLabel, TooMany}
 use Rattle.chv_defs_scene.specs.declared.scene.Line.{Line as Instruction}
 use Rattle.chv_defs_scene.specs.declared.scene.Scene.{Scene}
-use Rattle.chv_defs_scene.specs.ScenarioLines.{Line, lines_of, at_space, Part, Has, Ends, end_line, at_most, most_lines, instructed, script_lines, script_word, script_line, Before, nothing_before, Opening, OpensVcpu, OpensSession, OpensOrder, session_opening, vcpu_opening, order_opening, disk_reason, top_word, top_line}
-use Rattle.chv_defs_scene.specs.ScenarioText.{Fault, Place, Outside, InScript, InSession, InOrder, read_lines, read_scenario, empty_scene, with_session, with_order, IsScenario}
+use Rattle.chv_defs_scene.specs.ScenarioLines.{Line, lines_of, at_space, Part, Has, Ends, end_line, at_most, most_lines, instructed, script_lines, script_word, script_line, Before, nothing_before}
+use Rattle.chv_defs_scene.specs.ScenarioText.{Fault, Place, Outside, InScript, InSession, InOrder, read_lines, read_scenario, IsScenario}
 use Rattle.chv_defs_scene.specs.ScriptReading.{fields_of, label_in, labels_of, has_label, target, own_label, is_there, is_missing, label_fault, unless, line_of, line_between}
-use Rattle.chv_defs_scene.specs.ScriptText.{line_text}
 use Rattle.chv_script.proofs.FieldLemmas.{not_is}
 use Rattle.chv_script.proofs.ShapeLemmas.{bind_goes}
-use Rattle.chv_script.proofs.GrammarLemmas.{IsRead, read_line}
 use Rattle.chv_script.proofs.InstructionLemmas.{line_again}
 use Rattle.chv_scene.specs.Refusals.{LacksLabel, OnlyLacksLabel}
-use Rattle.chv_scene.proofs.SpellingLemmas.{by_test, lines_text}
-use Rattle.chv_scene.proofs.RequestLemmas.{no_feed, feedless, lines_feedless}
-use Rattle.chv_scene.proofs.ReadBackLemmas.{first_line}
-use Rattle.chv_scene.proofs.OpeningLemmas.{session_by, in_order_is}
-use Rattle.chv_scene.proofs.ScriptLemmas.{at_most_is, chosen_end, IsInstructed, line_instructed, script_ended, lines_on}
-use Rattle.chv_scene.proofs.GrammarLemmas.{read_is_scenario}
-use Rattle.chv_scene.proofs.WholeLemmas.{instruction_read, scenario_is_read}
-use Rattle.chv_scene.proofs.NextLemmas.{Spot, went, opened, next, read_at, lines_fail, lines_read_on, lines_go, lines_split}
-use Rattle.chv_scene.proofs.LabelsLeft.{labels_among, is_whole, wanting, rest_lines, rest_whole, rest_read, rest_keeps}
+use Rattle.chv_scene.proofs.ScriptLemmas.{at_most_is, chosen_end, IsInstructed, line_instructed}
+use Rattle.chv_scene.proofs.WholeLemmas.{scenario_is_read}
+use Rattle.chv_scene.proofs.NextLemmas.{Spot, went, next, read_at, lines_fail, lines_read_on, lines_split}
+use Rattle.chv_scene.proofs.LabelsLeft.{labels_among}
 
 -- ---- what a line of a script means before other lines
 

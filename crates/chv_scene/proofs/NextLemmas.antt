@@ -1,5 +1,5 @@
 -- A line of a scenario, wherever it stands: where the line behind it stands, or why it fails.
-use Rattle.std.proofs.Common.{◌≡◌, ℕ, ◌+◌, true, List, [], ◌∷◌, ◌++◌, length, Result, Ok, Err, refl, sym, ◌∙◌, ap, subst, arith}
+use Rattle.std.proofs.Common.{◌≡◌, ℕ, ◌+◌, true, List, [], ◌∷◌, ◌++◌, length, Result, Ok, Err, refl, sym, ◌∙◌, ap, arith}
 use Rattle.chv_defs_base.specs.declared.rule.Reason.{Reason}
 use Rattle.chv_defs_scene.specs.declared.scene.Scene.{Scene}
 use Rattle.chv_defs_scene.specs.ScenarioLines.{Line, Part, Has, Ends, Before, Opening, OpensVcpu, OpensSession, OpensOrder, session_line, order_line, script_line, top_line}

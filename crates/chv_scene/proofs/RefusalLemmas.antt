@@ -1,5 +1,5 @@
 -- Each refusal names the lowest line with which no scenario goes on.
-use Rattle.std.proofs.Common.{◌≡◌, ℕ, ◌+◌, ◌++◌, length, take, drop, refl, sym, ◌∙◌, ap, subst, length-append, arith}
+use Rattle.std.proofs.Common.{◌≡◌, ◌+◌, length, take, drop, refl, sym, ◌∙◌, ap, subst, length-append, arith}
 use Rattle.std.proofs.lemmas.List.{take_at, drop_at}
 use Rattle.chv_defs_scene.specs.ScenarioLines.{lines_of, nothing_before}
 use Rattle.chv_defs_scene.specs.ScenarioText.{Outside}

@@ -1,7 +1,7 @@
 -- The law above the refusals of scenarios, by the grammar of their texts: the line that is named is the lowest with which no
 -- scenario goes on. Two things have to be said with it. A label may stand behind the jump to it, so that of a jump to no label the
 -- lines behind it decide; and a script that has to have many labels more may be too long for them.
-use Rattle.std.specs.Prelude.{◌≡◌, ◌≤◌, ℕ, ◌+◌, true, false, List, [], ◌∷◌, ◌++◌, length, take, drop, codes, Some, Err}
+use Rattle.std.specs.Prelude.{◌≡◌, ◌≤◌, ℕ, ◌+◌, true, false, List, ◌∷◌, ◌++◌, length, take, drop, codes, Some, Err}
 use Rattle.std.specs.List.{list_any}
 use Rattle.chv_defs_base.specs.declared.rule.Reason.{Reason}
 use Rattle.chv_defs_base.specs.declared.rule.Reason.TheVariants.{UnknownLabel}

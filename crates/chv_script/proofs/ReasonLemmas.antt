@@ -1,5 +1,5 @@
 -- A line fails for the first reason that holds of it.
-use Rattle.std.proofs.Common.{◌≡◌, ◌≢◌, ◌⊎◌, inl, inr, ℕ, ◌^◌, ◌≤◌, ◌<◌, ◌&&◌, nat_lt, nat_le, Bool, true, false, cond, List, [], ◌∷◌, ◌++◌, length, take, drop, codes, Option, None, Some, Result, Ok, Err, refl, sym, ◌∙◌, ap, subst, arith}
+use Rattle.std.proofs.Common.{◌≡◌, ◌≢◌, ◌⊎◌, inl, inr, ℕ, ◌^◌, Bool, true, false, cond, List, [], ◌∷◌, ◌++◌, length, take, drop, codes, Option, None, Some, Result, Ok, Err, refl, sym, ◌∙◌, ap, subst, arith}
 use Rattle.std.specs.Str.{bytes_eq}
 use Rattle.std.proofs.lemmas.Bool.{and_parts, and_from, leb-true, le-leb, ltb-true, lt-ltb}
 use Rattle.chv_defs_base.specs.Id.{is_id}
@@ -11,14 +11,13 @@ use Rattle.chv_defs_scene.specs.declared.scene.Line.TheVariants as line
 use Rattle.chv_defs_scene.specs.declared.scene.MathOp.{MathOp}
 use Rattle.chv_defs_scene.specs.declared.scene.MathOp.TheVariants as op
 use Rattle.chv_defs_scene.specs.LineShapes.{Kind, Register, MemoryWidth, PortWidth, Value, Port, Stored, Label, IsOfKind, bad, AreOfKinds, FirstIsBad, kinds_of, FieldsFit, FieldsFail, instruction_shapes}
-use Rattle.chv_defs_scene.specs.ScriptReading.{◌>>=◌, fields_of, kept, is_register, is_port_width, is_port, is_put, register_of, memory_width_of, port_width_of, value_of, port_of, put_bytes_of, name_of, one, two, three, four, with_none, with_one, with_two, with_three, with_four, instruction_of, by_fields, line_of, labels_of, has_label, target, own_label, is_there, is_missing, label_fault, unless, line_between, is_instruction, Fault, read_script}
+use Rattle.chv_defs_scene.specs.ScriptReading.{◌>>=◌, fields_of, kept, is_register, is_port_width, is_port, is_put, register_of, memory_width_of, port_width_of, value_of, port_of, put_bytes_of, name_of, one, two, three, four, with_none, with_one, with_two, with_three, with_four, instruction_of, by_fields, line_of, labels_of, has_label, target, own_label, is_there, is_missing, label_fault, unless, line_between, is_instruction}
 use Rattle.chv_defs_scene.specs.ScriptText.{line_text}
-use Rattle.chv_script.specs.Reasons.{LooksLike, LooksWrong, IsLabelTwice, JumpsNowhere, InstructionFails, NamesFirstReason}
+use Rattle.chv_script.specs.Reasons.{LooksLike, LooksWrong, InstructionFails, NamesFirstReason}
 use Rattle.chv_script.proofs.FieldLemmas.{not_is}
 use Rattle.chv_num.proofs.PairBytes.{are_bytes}
 use Rattle.chv_script.proofs.KindLemmas.{IsKind, registers, memory_widths, port_widths, values, ports, names}
 use Rattle.chv_script.proofs.PutLemmas.{puts}
-use Rattle.chv_script.proofs.ShapeLemmas.{bind_ok}
 use Rattle.chv_script.proofs.InstructionLemmas.{line_spelled}
 use Rattle.chv_script.proofs.LawLemmas.{names_first}
 
