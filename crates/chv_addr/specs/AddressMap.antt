@@ -7,8 +7,7 @@ use Rattle.chv_addr.specs.declared.region.Region.{Region}
 use Rattle.chv_addr.specs.declared.place.Place.{Place}
 use Rattle.chv_addr.specs.declared.place.Place.TheVariants.{Ram, Bar, Hole, Crosses}
 use Rattle.chv_addr.specs.declared.run.Run.{Run}
-use Rattle.chv_defs_base.specs.Sizes.{block_bytes}
-use Rattle.chv_defs_base.specs.Sizes.{blocks_in}
+use Rattle.chv_defs_base.specs.Sizes.{block_bytes, blocks_in}
 
 -- ---- the layout
 

@@ -1,3 +1,4 @@
+pub mod LineShapes
 pub mod ScenarioLines
 pub mod ScenarioText
 pub mod SceneText

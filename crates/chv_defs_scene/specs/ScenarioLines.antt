@@ -2,7 +2,7 @@
 -- no line feed fails as that. Else its word is looked at first, then the number of fields, then the fields from the left, and
 -- then whether it may stand there; of a script's line its labels are looked at before that.
 -- Not built yet are lines of disks: where the format takes one, it is refused as NotBuilt.
-use Rattle.std.specs.Prelude.{ℕ, ◌+◌, ◌==◌, ◌&&◌, ◌||◌, not, nat_le, nat_lt, Bool, true, false, if◌then◌else◌, List, [], ◌∷◌, length, codes, Option, None, Some, Result, Ok, Err}
+use Rattle.std.specs.Prelude.{ℕ, ◌==◌, ◌&&◌, ◌||◌, not, nat_le, nat_lt, Bool, true, false, if◌then◌else◌, List, [], ◌∷◌, length, codes, Option, None, Some, Result, Ok, Err}
 use Rattle.std.specs.List.{list_all, list_any}
 use Rattle.std.specs.Str.{bytes_eq}
 use Rattle.chv_defs_scene.specs.declared.scene.Asked.{Asked}
@@ -183,13 +183,13 @@ script_line before line lines =
 -- What stands before such a line: the lowest number that a vCPU's section can still have, which is one above the last; how many
 -- sessions; and whether the order.
 pub record Before : Type 0 where
-  pub vcpus : ℕ
+  pub next_vcpu : ℕ
   pub sessions : ℕ
   pub has_order : Bool
 
 -- nothing stands before it
 abbrev pub nothing_before : Before
-nothing_before = record { vcpus = 0; sessions = 0; has_order = false }
+nothing_before = record { next_vcpu = 0; sessions = 0; has_order = false }
 
 -- what such a line opens
 pub data Opening : Type 0 where
@@ -226,7 +226,7 @@ ranged low high (Some n) = if nat_le low n && nat_le n high then Ok n else Err B
 abbrev pub vcpu_numbers : Before → Result ℕ Reason → Result ℕ Reason → Result Opening Reason
 vcpu_numbers before (Err reason) fuel = Err reason
 vcpu_numbers before (Ok vcpu) (Err reason) = Err reason
-vcpu_numbers before (Ok vcpu) (Ok fuel) = in_order (is_early before && nat_le before.vcpus vcpu) (OpensVcpu vcpu fuel)
+vcpu_numbers before (Ok vcpu) (Ok fuel) = in_order (is_early before && nat_le before.next_vcpu vcpu) (OpensVcpu vcpu fuel)
 
 -- `vcpu N FUEL`: the number is at most 15, and the fuel at most 1,048,576
 abbrev pub vcpu_fields : Before → List ℕ → Option (List ℕ) → Result Opening Reason
@@ -240,7 +240,7 @@ vcpu_opening before (Some fields) = vcpu_fields before (at_space fields).0 (at_s
 
 -- whether nothing stands before a line but disks, which are not built
 abbrev pub is_first : Before → Bool
-is_first before = is_early before && before.vcpus == 0
+is_first before = is_early before && before.next_vcpu == 0
 
 -- why a number is refused, or that its line is out of order
 abbrev pub late_number : Result ℕ Reason → Reason

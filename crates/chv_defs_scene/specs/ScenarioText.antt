@@ -1,6 +1,6 @@
 -- How a scenario is read, in a format of this project's own: the scene that its lines are, or the first line that fails and why.
 -- It has the sections of vCPUs, then those of sessions, and then the order. (Disks, which come first, are not built.)
-use Rattle.std.specs.Prelude.{◌≡◌, ◌≤◌, ◌<◌, ℕ, ◌+◌, ◌^◌, ◌&&◌, not, nat_lt, nat_le, Bool, true, false, ◌==◌, List, [], ◌∷◌, ◌++◌, length, map, Option, None, Some, Result, Ok, Err}
+use Rattle.std.specs.Prelude.{◌≡◌, ◌≤◌, ℕ, ◌+◌, ◌^◌, ◌&&◌, not, nat_lt, Bool, true, ◌==◌, List, [], ◌∷◌, ◌++◌, length, map, Option, None, Some, Result, Ok, Err}
 use Rattle.std.specs.List.{AllByRecursion, list_all}
 use Rattle.chv_defs_scene.specs.declared.scene.Asked.{Asked}
 use Rattle.chv_defs_scene.specs.declared.scene.Asked.TheVariants as asked
@@ -103,7 +103,7 @@ section_part n onto close (Ok (Has thing)) inside outside = of_scene (onto thing
 -- What a line outside comes to, by what it opens: the rest is read there.
 abbrev pub top_part : ℕ → Before → Result Opening Reason → (Place → Before → Result Scene Fault) → Result Scene Fault
 top_part n before (Err reason) rest = failed n reason
-top_part n before (Ok (OpensVcpu vcpu fuel)) rest = of_scene (with_numbers vcpu fuel) (rest (InScript []) (record before { vcpus = vcpu + 1 }))
+top_part n before (Ok (OpensVcpu vcpu fuel)) rest = of_scene (with_numbers vcpu fuel) (rest (InScript []) (record before { next_vcpu = vcpu + 1 }))
 top_part n before (Ok OpensSession) rest = rest InSession (record before { sessions = before.sessions + 1 })
 top_part n before (Ok OpensOrder) rest = rest (InOrder 0) (record before { has_order = true })
 

@@ -37,7 +37,7 @@ pub record IsRest (b : Before) (text : List ℕ) (s : Scene) : Type 0 where
   pub spelled : text ≡ body_text s
   pub disks : s.disks ≡ []
   pub vcpus : AllByRecursion IsSection s.vcpus
-  pub ascend : Ascend b.vcpus s.vcpus
+  pub ascend : Ascend b.next_vcpu s.vcpus
   pub early : is_early b ≡ false → s.vcpus ≡ []
   pub few : length s.sessions + b.sessions ≤ 16
   pub last : b.has_order ≡ true → (s.sessions ≡ []) × (s.order ≡ None)
@@ -94,7 +94,7 @@ Sure (InScript before) b = (length before ≤ most_lines) × (b.sessions ≤ 16)
 Sure place b = b.sessions ≤ 16
 
 -- what was changed was read
-unchanged : (f : Scene → Scene) (read : Result Scene Fault) (s : Scene) → of_scene f read ≡ Ok s → (t : Scene) × (read ≡ Ok t) × (f t ≡ s)
+pub unchanged : (f : Scene → Scene) (read : Result Scene Fault) (s : Scene) → of_scene f read ≡ Ok s → (t : Scene) × (read ≡ Ok t) × (f t ≡ s)
 unchanged f (Ok t) s e = (t, refl, (cc))
 unchanged f (Err fault) s e = absurd (cc)
 
@@ -145,13 +145,13 @@ order_step n k b line lines s inside outside (Ok (Has t)) few known e more after
     }
 
 -- the instructions of a first line and of those behind it
-read_on : (before : List (List ℕ)) (text : List ℕ) (lines : List (List ℕ)) (l : Instruction) (rest : List Instruction) → line_between before text lines ≡ Ok l → read_behind (before ++ text ∷ []) lines ≡ Ok rest → read_behind before (text ∷ lines) ≡ Ok (l ∷ rest)
+pub read_on : (before : List (List ℕ)) (text : List ℕ) (lines : List (List ℕ)) (l : Instruction) (rest : List Instruction) → line_between before text lines ≡ Ok l → read_behind (before ++ text ∷ []) lines ≡ Ok rest → read_behind before (text ∷ lines) ≡ Ok (l ∷ rest)
 unfolding read_behind
 read_on before text lines l rest is others =
     bind_goes (at_line (length before + 1) (line_between before text lines)) (λ m. read_behind (before ++ text ∷ []) lines >>= λ rest. Ok (m ∷ rest)) l (ap (at_line (length before + 1)) is)
     ∙ bind_goes (read_behind (before ++ text ∷ []) lines) (λ rest. Ok (l ∷ rest)) rest others
 
-read_none : (before : List (List ℕ)) → read_behind before [] ≡ Ok []
+pub read_none : (before : List (List ℕ)) → read_behind before [] ≡ Ok []
 unfolding read_behind
 read_none before = refl
 
@@ -240,7 +240,7 @@ order_rest b text line s opened may is =
 pub section_text : (opened script vcpus sessions order : List ℕ) → opened ++ ((script ++ codes "end\n") ++ ((vcpus ++ sessions) ++ order)) ≡ ((((opened ++ script) ++ codes "end\n") ++ vcpus) ++ sessions) ++ order
 section_text opened script vcpus sessions order = simp append_assoc
 
-vcpu_rest : (b : Before) (lines : List Line) (line : List ℕ) (vcpu fuel : ℕ) (s t : Scene) → line ≡ opening_text (OpensVcpu vcpu fuel) → MayOpen b (OpensVcpu vcpu fuel) → IsScriptRest [] (record b { vcpus = vcpu + 1 }) lines t → with_numbers vcpu fuel t ≡ s → IsRest b (line ++ lines_text lines) s
+vcpu_rest : (b : Before) (lines : List Line) (line : List ℕ) (vcpu fuel : ℕ) (s t : Scene) → line ≡ opening_text (OpensVcpu vcpu fuel) → MayOpen b (OpensVcpu vcpu fuel) → IsScriptRest [] (record b { next_vcpu = vcpu + 1 }) lines t → with_numbers vcpu fuel t ≡ s → IsRest b (line ++ lines_text lines) s
 vcpu_rest b lines line vcpu fuel s t opened may is made =
     let rest = is.rest in
     let script = is.script in
@@ -263,9 +263,9 @@ vcpu_rest b lines line vcpu fuel s t opened may is made =
 outside_step : (n : ℕ) (b : Before) (line : Line) (lines : List Line) (s : Scene) (rest : Place → Before → Result Scene Fault) (opens : Result Opening Reason) → b.sessions ≤ 16 → ((o : Opening) → opens ≡ Ok o → IsOpening b (with_feed line) o) → top_part n b opens rest ≡ Ok s → ((place : Place) (now : Before) (t : Scene) → Sure place now → rest place now ≡ Ok t → Known place now lines t) → IsRest b (lines_text (line ∷ lines)) s
 outside_step n b line lines s rest (Err reason) sure known e more = absurd (cc)
 outside_step n b line lines s rest (Ok (OpensVcpu vcpu fuel)) sure known e more =
-    let found = unchanged (with_numbers vcpu fuel) (rest (InScript []) (record b { vcpus = vcpu + 1 })) s e in
+    let found = unchanged (with_numbers vcpu fuel) (rest (InScript []) (record b { next_vcpu = vcpu + 1 })) s e in
     let is = known (OpensVcpu vcpu fuel) refl in
-    vcpu_rest b lines (with_feed line) vcpu fuel s found.0 is.spelled is.may (more (InScript []) (record b { vcpus = vcpu + 1 }) found.0 (omega arith, sure) found.1) found.2
+    vcpu_rest b lines (with_feed line) vcpu fuel s found.0 is.spelled is.may (more (InScript []) (record b { next_vcpu = vcpu + 1 }) found.0 (omega arith, sure) found.1) found.2
 outside_step n b line lines s rest (Ok OpensSession) sure known e more =
     let is = known OpensSession refl in
     let room = is.may.1 in

@@ -20,7 +20,7 @@ opening_text OpensOrder = codes "order\n"
 
 -- whether a section can be opened there
 abbrev pub MayOpen : Before → Opening → Type 0
-MayOpen b (OpensVcpu vcpu fuel) = (is_early b ≡ true) × (b.vcpus ≤ vcpu) × (vcpu ≤ 15) × (fuel ≤ 1048576)
+MayOpen b (OpensVcpu vcpu fuel) = (is_early b ≡ true) × (b.next_vcpu ≤ vcpu) × (vcpu ≤ 15) × (fuel ≤ 1048576)
 MayOpen b OpensSession = (b.has_order ≡ false) × (b.sessions < 16)
 MayOpen b OpensOrder = b.has_order ≡ false
 
@@ -34,13 +34,13 @@ kept_is : {A : Type 0} (v : Bool) (x y : A) (reason : Reason) → cond v (Ok x) 
 kept_is true x y reason e = (refl, (cc))
 kept_is false x y reason e = absurd (cc)
 
-in_order_is : (v : Bool) (x o : Opening) → in_order v x ≡ Ok o → (v ≡ true) × (x ≡ o)
+pub in_order_is : (v : Bool) (x o : Opening) → in_order v x ≡ Ok o → (v ≡ true) × (x ≡ o)
 in_order_is true x o e = (refl, (cc))
 in_order_is false x o e = absurd (cc)
 
 -- ---- sessions and the order
 
-session_by : (v w : Bool) (o : Opening) → cond v (Err OutOfOrder) (cond w (Ok OpensSession) (Err TooMany)) ≡ Ok o → (v ≡ false) × (w ≡ true) × (OpensSession ≡ o)
+pub session_by : (v w : Bool) (o : Opening) → cond v (Err OutOfOrder) (cond w (Ok OpensSession) (Err TooMany)) ≡ Ok o → (v ≡ false) × (w ≡ true) × (OpensSession ≡ o)
 session_by true w o e = absurd (cc)
 session_by false true o e = (refl, refl, (cc))
 session_by false false o e = absurd (cc)
@@ -71,14 +71,14 @@ record Numbers (b : Before) (vcpu fuel : Result ℕ Reason) (o : Opening) : Type
   f : ℕ
   vcpu_is : vcpu ≡ Ok n
   fuel_is : fuel ≡ Ok f
-  early : (is_early b && nat_le b.vcpus n) ≡ true
+  early : (is_early b && nat_le b.next_vcpu n) ≡ true
   is : OpensVcpu n f ≡ o
 
 numbers_are : (b : Before) (vcpu fuel : Result ℕ Reason) (o : Opening) → vcpu_numbers b vcpu fuel ≡ Ok o → Numbers b vcpu fuel o
 numbers_are b (Err reason) fuel o e = absurd (cc)
 numbers_are b (Ok n) (Err reason) o e = absurd (cc)
 numbers_are b (Ok n) (Ok f) o e =
-    let found = in_order_is (is_early b && nat_le b.vcpus n) (OpensVcpu n f) o e in
+    let found = in_order_is (is_early b && nat_le b.next_vcpu n) (OpensVcpu n f) o e in
     record { n = n; f = f; vcpu_is = refl; fuel_is = refl; early = found.0; is = found.1 }
 
 vcpu_text : (number fuel : List ℕ) (n f : ℕ) → number ≡ dec_text n → fuel ≡ dec_text f → (codes "vcpu" ++ 32 ∷ (number ++ 32 ∷ fuel)) ++ codes "\n" ≡ opening_text (OpensVcpu n f)
@@ -90,10 +90,10 @@ fields_open b number (Some fuel) o e =
     let are = numbers_are b (ranged 0 15 (dec number)) (ranged 0 1048576 (dec fuel)) o (no_fault (has_space fuel) FieldCount _ o e) in
     let vcpu = ranged_is 0 15 (dec number) are.n are.vcpu_is in
     let most = ranged_is 0 1048576 (dec fuel) are.f are.fuel_is in
-    let tests = and_parts (is_early b) (nat_le b.vcpus are.n) are.early in
+    let tests = and_parts (is_early b) (nat_le b.next_vcpu are.n) are.early in
     subst (IsOpening b ((codes "vcpu" ++ 32 ∷ joined number (Some fuel)) ++ codes "\n")) are.is (record {
       spelled = vcpu_text number fuel are.n are.f (dec_spelled number are.n vcpu.0) (dec_spelled fuel are.f most.0);
-      may = (tests.0, leb-true b.vcpus are.n tests.1, vcpu.1, most.1);
+      may = (tests.0, leb-true b.next_vcpu are.n tests.1, vcpu.1, most.1);
     })
 
 vcpu_opens : (b : Before) (fields : Option (List ℕ)) (o : Opening) → vcpu_opening b fields ≡ Ok o → IsOpening b (joined (codes "vcpu") fields ++ codes "\n") o

@@ -63,7 +63,7 @@ mapped_some : (byte : ℕ) (found : Option (List ℕ)) (bytes : List ℕ) → op
 mapped_some byte None bytes e = absurd (cc)
 mapped_some byte (Some rest) bytes e = let all : byte ∷ rest ≡ bytes = cc in subst (λ bs. nat_lt 0 (length bs) ≡ true) all (lt-ltb 0 _ (omega arith))
 
-pairs_are_some : (text bytes : List ℕ) → bytes_of text ≡ Some bytes → nat_lt 0 (length bytes) ≡ true
+pub pairs_are_some : (text bytes : List ℕ) → bytes_of text ≡ Some bytes → nat_lt 0 (length bytes) ≡ true
 pairs_are_some [] bytes e = absurd (cc)
 pairs_are_some (high ∷ []) bytes e = absurd (cc)
 pairs_are_some (high ∷ low ∷ text) bytes e =

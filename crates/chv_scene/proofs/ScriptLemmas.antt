@@ -113,7 +113,7 @@ line_instructed before text true lines l e =
     record { fed = refl; word = is.0; between = is.1; is = line_read before text (script_lines lines) l is.1; room = found.1 }
 line_instructed before text false lines l e = absurd (cc)
 
-chosen_end : (v : Bool) (fields : Option (List ℕ)) (found : Result Instruction Reason) → cond v (end_line fields) (instructed found) ≡ Ok Ends → (v ≡ true) × (fields ≡ None)
+pub chosen_end : (v : Bool) (fields : Option (List ℕ)) (found : Result Instruction Reason) → cond v (end_line fields) (instructed found) ≡ Ok Ends → (v ≡ true) × (fields ≡ None)
 chosen_end true None found e = (refl, refl)
 chosen_end true (Some fields) found e = absurd (cc)
 chosen_end false fields found e = instructed_ends found _ e
@@ -130,6 +130,13 @@ script_ended before text true lines e =
     let whole = only_word text is.0 is.1 in
     (ap (λ t. t ++ codes "\n") whole, ap (λ t. script_lines (record { text = t; is_ended = true } ∷ lines)) whole)
 script_ended before text false lines e = absurd (cc)
+
+-- its text
+pub ended_text : (before : List (List ℕ)) (text : List ℕ) (lines : List Line) → script_line before (record { text = text; is_ended = true }) lines ≡ Ok Ends → text ≡ codes "end"
+ended_text before text lines e =
+    let found = at_most_is most_lines (length before) (script_word before text (script_lines lines) (at_space text).0 (at_space text).1) Ends e in
+    let is = chosen_end (bytes_eq (at_space text).0 (codes "end")) (at_space text).1 (line_between before text (script_lines lines)) found.0 in
+    only_word text is.0 is.1
 
 -- the lines of a script that begins with such a line
 pub lines_on : (line : Line) (lines : List Line) → bytes_eq (at_space line.text).0 (codes "end") ≡ false → script_lines (line ∷ lines) ≡ line.text ∷ script_lines lines

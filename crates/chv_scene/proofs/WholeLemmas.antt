@@ -89,17 +89,17 @@ order_read b k (t ∷ steps) rest s few good h n =
 
 -- ---- the section of a vCPU
 
-abbrev behind_vcpu : List Instruction → List ℕ → List ℕ
+abbrev pub behind_vcpu : List Instruction → List ℕ → List ℕ
 behind_vcpu script rest = flat_map instruction_line script ++ codes "end\n" ++ rest
 
 one_instruction : (l : Instruction) (script : List Instruction) (rest : List ℕ) → behind_vcpu (l ∷ script) rest ≡ line_text l ++ 10 ∷ behind_vcpu script rest
 one_instruction l script rest = simp append_assoc
 
-instruction_lines : (l : Instruction) (script : List Instruction) (rest : List ℕ) → is_instruction l ≡ true → lines_of (behind_vcpu (l ∷ script) rest) ≡ record { text = line_text l; is_ended = true } ∷ lines_of (behind_vcpu script rest)
+pub instruction_lines : (l : Instruction) (script : List Instruction) (rest : List ℕ) → is_instruction l ≡ true → lines_of (behind_vcpu (l ∷ script) rest) ≡ record { text = line_text l; is_ended = true } ∷ lines_of (behind_vcpu script rest)
 instruction_lines l script rest h = ap lines_of (one_instruction l script rest) ∙ first_line (line_text l) (behind_vcpu script rest) (text_no_feed l h)
 
 -- the lines of the script
-lines_read : (script : List Instruction) (rest : List ℕ) → list_all is_instruction script ≡ true → script_lines (lines_of (behind_vcpu script rest)) ≡ map line_text script
+pub lines_read : (script : List Instruction) (rest : List ℕ) → list_all is_instruction script ≡ true → script_lines (lines_of (behind_vcpu script rest)) ≡ map line_text script
 lines_read [] rest h = refl
 lines_read (l ∷ script) rest h =
     let parts = and_parts (is_instruction l) (list_all is_instruction script) h in
@@ -108,7 +108,7 @@ lines_read (l ∷ script) rest h =
     ∙ (cond-false (is_end line) [] (line_text l ∷ script_lines (lines_of (behind_vcpu script rest))) (no_end (line_text l) (instruction_no_end (line_text l) l (line_again l parts.0)))
     ∙ ap (λ ts. line_text l ∷ ts) (lines_read script rest parts.1))
 
-instruction_read : (before : List (List ℕ)) (l : Instruction) (lines : List Line) → is_instruction l ≡ true → length before < most_lines → line_between before (line_text l) (script_lines lines) ≡ Ok l → script_line before (record { text = line_text l; is_ended = true }) lines ≡ Ok (Has l)
+pub instruction_read : (before : List (List ℕ)) (l : Instruction) (lines : List Line) → is_instruction l ≡ true → length before < most_lines → line_between before (line_text l) (script_lines lines) ≡ Ok l → script_line before (record { text = line_text l; is_ended = true }) lines ≡ Ok (Has l)
 instruction_read before l lines good room is =
     ap (at_most most_lines (length before)) (cond-false (bytes_eq (at_space (line_text l)).0 (codes "end")) (end_line (at_space (line_text l)).1) (instructed (line_between before (line_text l) (script_lines lines))) (instruction_no_end (line_text l) l (line_again l good)) ∙ ap instructed is)
     ∙ cond-true (nat_lt (length before) most_lines) (Ok (Has l)) (Err TooMany) (lt-ltb (length before) most_lines room)
@@ -116,7 +116,7 @@ instruction_read before l lines good room is =
 heads : {A : Type 0} (x y : A) (xs ys : List A) → x ∷ xs ≡ y ∷ ys → (x ≡ y) × (xs ≡ ys)
 heads x y xs ys e = (cc, cc)
 
-vcpu_read : (b : Before) (before : List (List ℕ)) (script : List Instruction) (rest : List ℕ) (s : Scene) → length before + length script ≤ most_lines → list_all is_instruction script ≡ true → read_behind before (map line_text script) ≡ Ok script → ((n : ℕ) → read_lines Outside b n (lines_of rest) ≡ Ok s) → (n : ℕ) → read_lines (InScript before) b n (lines_of (behind_vcpu script rest)) ≡ Ok (record s { vcpus = section 0 0 script ∷ s.vcpus })
+pub vcpu_read : (b : Before) (before : List (List ℕ)) (script : List Instruction) (rest : List ℕ) (s : Scene) → length before + length script ≤ most_lines → list_all is_instruction script ≡ true → read_behind before (map line_text script) ≡ Ok script → ((n : ℕ) → read_lines Outside b n (lines_of rest) ≡ Ok s) → (n : ℕ) → read_lines (InScript before) b n (lines_of (behind_vcpu script rest)) ≡ Ok (record s { vcpus = section 0 0 script ∷ s.vcpus })
 vcpu_read b before [] rest s few good is h n = ap (of_scene with_script) (h (n + 1))
 vcpu_read b before (l ∷ script) rest s few good is h n =
     let parts = and_parts (is_instruction l) (list_all is_instruction script) good in
@@ -144,14 +144,14 @@ vcpu_line vcpu fuel rest v f =
 ranged_read : (high n : ℕ) → n ≤ high → n < 2 ^ 64 → ranged 0 high (dec (dec_text n)) ≡ Ok n
 ranged_read high n h small = ap (ranged 0 high) (dec_again n small) ∙ cond-true (nat_le 0 n && nat_le n high) (Ok n) (Err BadNumber) (and_from _ _ (le-leb 0 n (omega arith)) (le-leb n high h))
 
-opening_read : (b : Before) (vcpu fuel : ℕ) → is_early b ≡ true → b.vcpus ≤ vcpu → vcpu ≤ 15 → fuel ≤ 1048576 → top_line b (record { text = codes "vcpu" ++ 32 ∷ (dec_text vcpu ++ 32 ∷ dec_text fuel); is_ended = true }) ≡ Ok (OpensVcpu vcpu fuel)
+opening_read : (b : Before) (vcpu fuel : ℕ) → is_early b ≡ true → b.next_vcpu ≤ vcpu → vcpu ≤ 15 → fuel ≤ 1048576 → top_line b (record { text = codes "vcpu" ++ 32 ∷ (dec_text vcpu ++ 32 ∷ dec_text fuel); is_ended = true }) ≡ Ok (OpensVcpu vcpu fuel)
 opening_read b vcpu fuel early from v f =
     let plain : no_space (dec_text vcpu) ≡ true = plain_no_space (dec_text vcpu) (dec_plain vcpu (omega (arith, v))) in
     let plain_fuel : no_space (dec_text fuel) ≡ true = plain_no_space (dec_text fuel) (dec_plain fuel (omega (arith, f))) in
     ap (λ (parts : List ℕ × Option (List ℕ)). vcpu_fields b parts.0 parts.1) (first_field (dec_text vcpu) (dec_text fuel) plain)
     ∙ (cond-false (has_space (dec_text fuel)) (Err FieldCount) (vcpu_numbers b (ranged 0 15 (dec (dec_text vcpu))) (ranged 0 1048576 (dec (dec_text fuel)))) (one_field (dec_text fuel) plain_fuel)
     ∙ (ap₂ (vcpu_numbers b) (ranged_read 15 vcpu v (omega (arith, v))) (ranged_read 1048576 fuel f (omega (arith, f)))
-    ∙ ap (λ t. in_order t (OpensVcpu vcpu fuel)) (and_from _ _ early (le-leb b.vcpus vcpu from))))
+    ∙ ap (λ t. in_order t (OpensVcpu vcpu fuel)) (and_from _ _ early (le-leb b.next_vcpu vcpu from))))
 
 -- ---- the whole
 
@@ -183,11 +183,11 @@ sessions_all b (requests ∷ sessions) order none few good last n =
     one_session : (requests : List Asked) (sessions order : List ℕ) → (session_section requests ++ sessions) ++ order ≡ codes "session\n" ++ behind_first requests (sessions ++ order)
     one_session requests sessions order = simp append_assoc
 
-vcpus_all : (b : Before) (vcpus : List VcpuSection) (sessions : List (List Asked)) (order : Option (List OrderStep)) → b.sessions ≡ 0 → b.has_order ≡ false → AllByRecursion IsSection vcpus → Ascend b.vcpus vcpus → length sessions ≤ 16 → all_requests sessions ≡ true → IsOrder order → (n : ℕ) → read_lines Outside b n (lines_of (flat_map vcpu_section vcpus ++ flat_map session_section sessions ++ order_section order)) ≡ Ok (record { disks = []; vcpus = vcpus; sessions = sessions; order = order })
+vcpus_all : (b : Before) (vcpus : List VcpuSection) (sessions : List (List Asked)) (order : Option (List OrderStep)) → b.sessions ≡ 0 → b.has_order ≡ false → AllByRecursion IsSection vcpus → Ascend b.next_vcpu vcpus → length sessions ≤ 16 → all_requests sessions ≡ true → IsOrder order → (n : ℕ) → read_lines Outside b n (lines_of (flat_map vcpu_section vcpus ++ flat_map session_section sessions ++ order_section order)) ≡ Ok (record { disks = []; vcpus = vcpus; sessions = sessions; order = order })
 vcpus_all b [] sessions order first none fine ascend few good last n = sessions_all b sessions order none (omega (arith, few, first)) good last n
 vcpus_all b (v ∷ vcpus) sessions order first none fine ascend few good last n =
     let is = fine.0 in
-    let now : Before = record b { vcpus = v.vcpu + 1 } in
+    let now : Before = record b { next_vcpu = v.vcpu + 1 } in
     let script = v.script.lines in
     let fits = is.short in
     let short : 0 + length script ≤ most_lines = omega (arith, fits) in

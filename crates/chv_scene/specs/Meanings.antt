@@ -14,7 +14,7 @@ part_of (Err reason) = Err reason
 
 -- what stands before a line outside of the sections
 abbrev pub before_of : Passed → Before
-before_of p = record { vcpus = p.vcpus; sessions = p.sessions; has_order = p.has_order }
+before_of p = record { next_vcpu = p.next_vcpu; sessions = p.sessions; has_order = p.has_order }
 
 -- what such a line opens
 abbrev pub opening : Opens → Opening

@@ -41,7 +41,7 @@ with_done d scene = record {
 
 -- what stands before a line outside of the sections
 abbrev pub before : Done → Before
-before d = record { vcpus = d.next_vcpu; sessions = length d.sessions; has_order = is_some d.order }
+before d = record { next_vcpu = d.next_vcpu; sessions = length d.sessions; has_order = is_some d.order }
 
 -- the same where a session's section is open, and where the order is
 abbrev pub before_session : Done → Before

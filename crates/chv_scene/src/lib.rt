@@ -14,7 +14,9 @@ mod script;
 mod section;
 mod steps;
 
-pub use laws::reads_exactly_the_scenarios;
+pub use laws::{
+    reads_exactly_the_scenarios, refusal_names_the_first_reason, refusal_names_the_lowest_line,
+};
 pub use played::read_played;
 pub use printing::print;
 pub use scenario::{SceneFault, read};

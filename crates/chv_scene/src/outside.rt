@@ -22,7 +22,7 @@ const MOST_FUEL: u64 = 1_048_576;
 #[derive(Clone, Copy)]
 pub(crate) struct Passed {
     /// The lowest number that a vCPU's section can still have.
-    pub(crate) vcpus: u64,
+    pub(crate) next_vcpu: u64,
     pub(crate) sessions: usize,
     pub(crate) has_order: bool,
 }
@@ -111,7 +111,7 @@ fn vcpu_numbers(
     match (vcpu, fuel) {
         (Err(reason), _) => Err(reason),
         (_, Err(reason)) => Err(reason),
-        (Ok(vcpu), Ok(fuel)) if is_early(passed) && passed.vcpus <= vcpu => Ok(Opens::Vcpu {
+        (Ok(vcpu), Ok(fuel)) if is_early(passed) && passed.next_vcpu <= vcpu => Ok(Opens::Vcpu {
             vcpu: vcpu as u8,
             fuel,
         }),
@@ -130,7 +130,7 @@ fn is_early(passed: &Passed) -> bool
 fn is_first(passed: &Passed) -> bool
     ensures { result ≡ line.is_first (before_of passed.now) }
 {
-    is_early(passed) && passed.vcpus == 0
+    is_early(passed) && passed.next_vcpu == 0
 }
 
 fn disk(passed: &Passed, fields: Option<&[u8]>) -> Reason

@@ -66,7 +66,7 @@ impl Done {
         ensures { before_of result ≡ before self.now }
     {
         Passed {
-            vcpus: self.next_vcpu,
+            next_vcpu: self.next_vcpu,
             sessions: self.sessions.len(),
             has_order: self.order.is_some(),
         }

@@ -139,7 +139,7 @@ none_read before script e = let none : List Line = [] in made_is none script Fau
 one_on : (before : List (List ℕ)) (text : List ℕ) (lines : List (List ℕ)) → (before ++ text ∷ []) ++ lines ≡ before ++ text ∷ lines
 one_on before text lines = append_assoc before (text ∷ []) lines
 
-labels_on : (before : List (List ℕ)) (text : List ℕ) → labels_of (before ++ text ∷ []) ≡ labels_of before ++ cons_option (label_in (fields_of text)) []
+pub labels_on : (before : List (List ℕ)) (text : List ℕ) → labels_of (before ++ text ∷ []) ≡ labels_of before ++ cons_option (label_in (fields_of text)) []
 labels_on before text = filter_map-append (λ t. label_in (fields_of t)) before (text ∷ [])
 
 -- what is known of lines that are read behind others
@@ -188,7 +188,7 @@ read_is_script lines script e =
 
 -- ---- each script is read
 
-texts_labels : (script : List Line) → list_all is_instruction script ≡ true → labels_of (map line_text script) ≡ own_labels script
+pub texts_labels : (script : List Line) → list_all is_instruction script ≡ true → labels_of (map line_text script) ≡ own_labels script
 texts_labels [] h = refl
 texts_labels (l ∷ script) h =
     let parts = and_parts (is_instruction l) (list_all is_instruction script) h in

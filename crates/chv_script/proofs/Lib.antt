@@ -7,5 +7,6 @@ pub mod LawLemmas
 pub mod PartLemmas
 pub mod Printed
 pub mod PutLemmas
+pub mod ReasonLemmas
 pub mod ShapeLemmas
 pub mod StepLemmas

@@ -1,6 +1,7 @@
 // The laws of the definitions, as contracts of functions that do nothing.
 ghost use Rattle.chv_defs_scene.specs.ScriptReading.{ReadsScripts};
 ghost use Rattle.chv_script.specs.Laws.{IsReadBack, OneSpelling, NamesFirstFault, NoScriptBegins};
+ghost use Rattle.chv_script.specs.Reasons.{NamesFirstReason};
 
 use chv_defs_scene::Script;
 
@@ -25,4 +26,10 @@ pub fn script_has_one_spelling()
 pub fn refusal_names_the_first_fault()
     ensures first { NamesFirstFault }
     ensures none { NoScriptBegins }
+{}
+
+/// A refusal names the first reason that holds of its line: its word is none, or it has more fields or fewer, or a field is not of
+/// its kind (the leftmost such field tells), or else its label stands on a line before, or it jumps to no label.
+pub fn refusal_names_the_first_reason()
+    ensures { NamesFirstReason }
 {}

@@ -14,7 +14,7 @@ mod stop;
 pub use labels::add_label;
 pub use laws::{
     printed_is_read_back, reads_exactly_the_scripts, refusal_names_the_first_fault,
-    script_has_one_spelling,
+    refusal_names_the_first_reason, script_has_one_spelling,
 };
 pub use printing::{line_text, print, vcpu_line};
 pub use reading::{ScriptFault, read};
