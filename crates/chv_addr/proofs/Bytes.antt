@@ -10,7 +10,8 @@ use Rattle.chv_defs_base.specs.Sizes.{block_bytes}
 use Rattle.chv_addr.specs.declared.place.Place.{Place}
 use Rattle.chv_addr.specs.declared.place.Place.TheVariants.{Ram, Bar, Hole, Crosses}
 use Rattle.chv_addr.specs.declared.run.Run.{Run}
-use Rattle.chv_addr.specs.AddressMap.{AddressMap, AreInOrder, holds, hole_end, hole_start, is_clear, map_of, no_ram, no_window, place_by, place_of, run_at, run_bytes, slot_at, slots, window_bytes, window_start}
+use Rattle.chv_defs_api.specs.Registers.{window_bytes, window_start}
+use Rattle.chv_addr.specs.AddressMap.{AddressMap, AreInOrder, holds, hole_end, hole_start, is_clear, map_of, no_ram, no_window, place_by, place_of, run_at, run_bytes, slot_at, slots}
 use Rattle.chv_addr.specs.Layout.{BytesLieTogether, IsPlacedByBytes}
 use Rattle.chv_addr.proofs.Apart.{apart-all, apart-none, apart-part, holds-above, holds-in, holds-parts}
 use Rattle.chv_addr.proofs.RunSearch.{find-passes}

@@ -8,7 +8,8 @@ use Rattle.std.proofs.lemmas.List.Elements.{All-tail}
 use Rattle.std.proofs.lemmas.List.Sums.{sum_by-cons, sum_by-append}
 use Rattle.chv_defs_api.specs.declared.config.ZoneConfig.{ZoneConfig}
 use Rattle.chv_addr.specs.declared.run.Run.{Run}
-use Rattle.chv_addr.specs.AddressMap.{AreInOrder, addresses_of, below_hole, blocks_of, boot_end, boot_runs, has_block, hole_start, hole_end, holders, holds, is_clear, map_of, past_hole, plug_runs, region_start, run_bytes, slots, window_bytes, window_start, with_run}
+use Rattle.chv_defs_api.specs.Registers.{window_bytes, window_start}
+use Rattle.chv_addr.specs.AddressMap.{AreInOrder, addresses_of, below_hole, blocks_of, boot_end, boot_runs, has_block, hole_start, hole_end, holders, holds, is_clear, map_of, past_hole, plug_runs, region_start, run_bytes, slots, with_run}
 use Rattle.chv_defs_base.specs.Sizes.{block_bytes, blocks_in}
 use Rattle.chv_addr.proofs.Zones.{map-clear, map-order}
 

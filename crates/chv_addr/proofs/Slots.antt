@@ -4,7 +4,8 @@ use Rattle.std.specs.Prelude.{find, not, nat_le, nat_lt}
 use Rattle.std.specs.List.{list_all, range_with_len}
 use Rattle.std.proofs.lemmas.Bool.{cases_lt}
 use Rattle.std.proofs.lemmas.Bool.Decides.{nat_tests}
-use Rattle.chv_addr.specs.AddressMap.{holds, is_apart, slot_at, slots, no_window, window_start, window_bytes}
+use Rattle.chv_defs_api.specs.Registers.{window_start, window_bytes}
+use Rattle.chv_addr.specs.AddressMap.{holds, is_apart, slot_at, slots, no_window}
 
 -- ---- the slot that holds an address
 

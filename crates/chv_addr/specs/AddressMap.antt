@@ -8,6 +8,7 @@ use Rattle.chv_addr.specs.declared.place.Place.{Place}
 use Rattle.chv_addr.specs.declared.place.Place.TheVariants.{Ram, Bar, Hole, Crosses}
 use Rattle.chv_addr.specs.declared.run.Run.{Run}
 use Rattle.chv_defs_base.specs.Sizes.{block_bytes, blocks_in}
+use Rattle.chv_defs_api.specs.Registers.{window_bytes, window_start}
 
 -- ---- the layout
 
@@ -89,14 +90,6 @@ run_bytes run = run.count * block_bytes
 -- the slots of devices: 1 to 31
 unfoldable pub slots : List ℕ
 slots = range_with_len 1 31
-
--- the bytes of a window: 64 KiB
-abbrev pub window_bytes : ℕ
-window_bytes = 0x10000
-
--- where the window of a slot begins
-abbrev pub window_start : ℕ → ℕ
-window_start slot = 0xe0000000 + slot * window_bytes
 
 -- whether an interval of so many bytes from a start holds an address
 abbrev pub holds : ℕ → ℕ → ℕ → Bool

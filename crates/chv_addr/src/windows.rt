@@ -1,6 +1,7 @@
 // The windows of devices.
 ghost use Rattle.std.specs.Prelude.{◌≡◌, ◌+◌, ◌≤◌, not, true};
-ghost use Rattle.chv_addr.specs.AddressMap.{bar_place, holds, no_window, slot_at, window_bytes, window_start};
+ghost use Rattle.chv_defs_api.specs.Registers.{window_bytes, window_start};
+ghost use Rattle.chv_addr.specs.AddressMap.{bar_place, holds, no_window, slot_at};
 
 use crate::Place;
 

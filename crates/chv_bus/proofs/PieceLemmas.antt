@@ -8,7 +8,8 @@ use Rattle.std.proofs.lemmas.List.{take_all}
 use Rattle.chv_defs_base.specs.Numbers.{is_width, le_bytes, le_field, le_number}
 use Rattle.chv_defs_api.specs.declared.config.ZoneConfig.{ZoneConfig}
 use Rattle.chv_defs_api.specs.declared.context.CpuNote.{CpuNote}
-use Rattle.chv_defs_scene.specs.ScriptReading.{is_instruction, is_port, is_port_width, is_put, is_register}
+use Rattle.chv_defs_api.specs.Registers.{is_port_width}
+use Rattle.chv_defs_scene.specs.ScriptReading.{is_instruction, is_port, is_put, is_register}
 use Rattle.chv_defs_scene.specs.declared.scene.Line.{Line}
 use Rattle.chv_defs_scene.specs.declared.scene.Line.TheVariants as line
 use Rattle.chv_addr.specs.declared.place.Place.{Place}

@@ -12,7 +12,8 @@ use Rattle.chv_defs_memory.specs.Zones.{most_zones}
 use Rattle.chv_addr.specs.declared.place.Place.{Place}
 use Rattle.chv_addr.specs.declared.place.Place.TheVariants as place
 use Rattle.chv_addr.specs.declared.run.Run.{Run}
-use Rattle.chv_addr.specs.AddressMap.{bar_place, bare_place, below_hole, boot_end, boot_runs, holds, is_within_limits, map_of, no_ram, no_window, past_hole, place_by, place_of, plug_runs, ram_place, region_start, run_at, run_bytes, slot_at, window_bytes, window_start, with_run}
+use Rattle.chv_defs_api.specs.Registers.{window_bytes, window_start}
+use Rattle.chv_addr.specs.AddressMap.{bar_place, bare_place, below_hole, boot_end, boot_runs, holds, is_within_limits, map_of, no_ram, no_window, past_hole, place_by, place_of, plug_runs, ram_place, region_start, run_at, run_bytes, slot_at, with_run}
 use Rattle.chv_addr.proofs.RunSearch.{find-in, find-passes}
 use Rattle.chv_addr.proofs.Zones.{AreSmall, small-zones}
 

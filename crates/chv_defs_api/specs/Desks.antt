@@ -1,11 +1,12 @@
 -- A desk, at which one caller asks the control machine: which calls it may make there, of which kinds their answers are,
--- and what it means that nothing but asking was done at a desk. So far the caller is a session. Callers and their numbers
--- are this project's own.
-use Rattle.std.specs.Prelude.{◌≤◌, ◌≡◌, ℕ, Bool, true, false, List, [], ◌∷◌}
+-- and what it means that nothing but asking was done at a desk. The caller is a session, or it has taken a context. Callers and
+-- their numbers are this project's own.
+use Rattle.std.specs.Prelude.{◌≤◌, ◌≡◌, ℕ, Bool, true, false, List, [], ◌∷◌, Option, Some}
 use Rattle.chv_defs_api.specs.declared.control.ControlCall.{ControlCall}
 use Rattle.chv_defs_api.specs.declared.control.ControlCall.TheVariants as call
 use Rattle.chv_defs_api.specs.declared.control.ControlReply.{ControlReply}
 use Rattle.chv_defs_api.specs.declared.control.ControlReply.TheVariants as reply
+use Rattle.chv_defs_api.specs.Registers.{is_reply_to, IsRegAccess}
 
 -- The callers 1 to 16 are sessions.
 abbrev pub IsSession : ℕ → Type 0
@@ -37,12 +38,15 @@ is_held [] = false
 is_held (a ∷ []) = is_holding a.reply
 is_held (a ∷ b ∷ more) = is_held (b ∷ more)
 
--- A session may make the calls of the API and its Bye, and behind an answer Holding its Settle.
-abbrev pub MayAsk : ℕ → List Answer → ControlCall → Type 0
-MayAsk caller answers call.Settle = IsSession caller × (is_held answers ≡ true)
-MayAsk caller answers c = IsSession caller × (is_session_call c ≡ true)
+-- A session may make the calls of the API and its Bye, and behind an answer Holding its Settle. A caller with whom a context is
+-- out may make register accesses with the context's number.
+abbrev pub MayAsk : ℕ → Option ℕ → List Answer → ControlCall → Type 0
+MayAsk caller context answers call.Settle = IsSession caller × (is_held answers ≡ true)
+MayAsk caller context answers (call.Reg number access) = (context ≡ Some number) × IsRegAccess access
+MayAsk caller context answers c = IsSession caller × (is_session_call c ≡ true)
 
--- whether an answer is of a kind that a call of a session can have; which rule refuses it is not said here
+-- Whether an answer is of a kind that a call of a session can have (which rule refuses it is not said here), or one that a
+-- register access can have.
 abbrev pub can_have : ControlCall → ControlReply → Bool
 can_have call.Ping reply.Done = true
 can_have call.Ping _ = false
@@ -50,6 +54,7 @@ can_have call.Settle reply.Done = true
 can_have call.Settle _ = false
 can_have call.Bye reply.Done = true
 can_have call.Bye _ = false
+can_have (call.Reg context access) answer = is_reply_to access answer
 can_have _ (reply.Ruled rule) = true
 can_have call.Info (reply.Shown info) = true
 can_have call.Info _ = false

@@ -4,6 +4,7 @@ pub mod Desks
 pub mod HttpFront
 pub mod JsonBodies
 pub mod JsonTexts
+pub mod Registers
 pub mod Replies
 pub mod Requests
 pub mod Routes

@@ -15,6 +15,9 @@ pub trait Desk<R> {
     /// The caller's number.
     ghost caller: { Self → ℕ };
 
+    /// The number of the context that is out with the caller, as which it calls on banks, where one is.
+    ghost context: { Self → Option ℕ };
+
     /// The calls that the caller has made, in order, each with its answer.
     ghost answers: { Self → List Answer };
 
@@ -31,8 +34,9 @@ pub trait Desk<R> {
         rt: R,
         call: &ControlCall,
     ) -> Result<Result<ControlReply, Stopped>, AllocError>
-        requires { MayAsk (caller self.old) (answers self.old) call.now }
+        requires { MayAsk (caller self.old) (context self.old) (answers self.old) call.now }
         ensures caller { caller self.new ≡ caller self.old }
+        ensures context { context self.new ≡ context self.old }
         ensures answered { IfOk result (λ answer. IfOk answer (λ reply. (answers self.new ≡ answers self.old ++ record { call = call.now; reply = reply } ∷ []) × (refused self.new ≡ refused self.old))) }
         ensures fits { IfOk result (λ answer. IfOk answer (λ reply. can_have call.now reply ≡ true)) }
         ensures halted { IfOk result (λ answer. OnErr answer ((answers self.new ≡ answers self.old) × (refused self.new ≡ Some call.now))) }

@@ -3,6 +3,7 @@ pub mod BankState
 pub mod BlockSets
 pub mod LastByte
 pub mod LegalBank
+pub mod Lending
 pub mod MadeCalls
 pub mod PageContents
 pub mod Zones

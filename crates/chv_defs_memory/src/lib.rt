@@ -2,7 +2,9 @@
 #![tactic(auto)]
 
 mod bank;
+mod lends;
 mod zones;
 
 pub use bank::{BankCall, BankEntry, BankReply, PageAt, Refusal, Span};
+pub use lends::{Lends, Lent, Reach, Told};
 pub use zones::{BANKS, Banked, Zones};

@@ -7,6 +7,7 @@ use Rattle.chv_defs_base.specs.Id.{is_id}
 use Rattle.chv_defs_base.specs.Numbers.{dec, hex, bytes_of, is_width}
 use Rattle.chv_defs_base.specs.declared.rule.Reason.{Reason}
 use Rattle.chv_defs_base.specs.declared.rule.Reason.TheVariants.{UnknownWord, FieldCount, BadRegister, BadWidth, BadHex, BadName, UnknownLabel, LabelTwice}
+use Rattle.chv_defs_api.specs.Registers.{is_port_width}
 use Rattle.chv_defs_scene.specs.ScriptText.{line_text}
 use Rattle.chv_defs_scene.specs.declared.scene.Line.{Line}
 use Rattle.chv_defs_scene.specs.declared.scene.Line.TheVariants as line
@@ -40,10 +41,6 @@ register_of text = if bytes_eq (take 1 text) (codes "r") then kept is_register B
 -- the width of a load or a store: 1, 2, 4 or 8
 unfoldable pub memory_width_of : List ℕ → Result ℕ Reason
 memory_width_of text = kept is_width BadWidth (dec text)
-
--- how many bytes an access to a port can have
-abbrev pub is_port_width : ℕ → Bool
-is_port_width w = w == 1 || w == 2 || w == 4
 
 -- the width of an access to a port: 1, 2 or 4
 unfoldable pub port_width_of : List ℕ → Result ℕ Reason

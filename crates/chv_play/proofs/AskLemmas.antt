@@ -166,10 +166,11 @@ is_entered {D} shelf before call after reply answer enters =
       room.1,
     )
 
--- what a caller may ask that is not held, it may call
-pub may_call : (m : Machine) (caller : ℕ) (answers : List Answer) (c : ControlCall) → is_held answers ≡ false → MayAsk caller answers c
+-- what a caller may ask that is not held and has no context out, it may call
+pub may_call : (m : Machine) (caller : ℕ) (answers : List Answer) (c : ControlCall) → is_held answers ≡ false → MayAsk caller None answers c
     → MayCall m caller c × (is_session_call c ≡ true)
 may_call m caller answers call.Settle settled may = absurd (cc (settled, may.1))
+may_call m caller answers (call.Reg number access) settled may = absurd (cc may.0)
 may_call m caller answers call.Stop settled may = absurd (cc may.1)
 may_call m caller answers c settled may = (may, may.1)
 

@@ -149,6 +149,9 @@ impl<D: Disk> Desk<()> for PlayDesk<D> {
 
     ghost caller = { λ d. d.caller };
 
+    // A session takes no context.
+    ghost context = { λ _. None };
+
     ghost answers = { λ d. answers_by d.caller d.control.history };
 
     ghost refused = { λ d. call_of d.refused };

@@ -14,7 +14,8 @@ use Rattle.chv_defs_scene.specs.declared.scene.Line.TheVariants as line
 use Rattle.chv_defs_scene.specs.declared.scene.MathOp.{MathOp}
 use Rattle.chv_defs_scene.specs.declared.scene.MathOp.TheVariants as op
 use Rattle.chv_defs_scene.specs.ScriptText.{register, operation, line_text}
-use Rattle.chv_defs_scene.specs.ScriptReading.{fields_of, register_of, port_width_of, value_of, port_of, put_bytes_of, name_of, with_none, with_one, with_two, with_three, with_four, jump_of, access_of, math_of, instruction_of, by_fields, line_of, label_in, own_label, is_register, is_port_width, is_port, is_put, is_instruction}
+use Rattle.chv_defs_api.specs.Registers.{is_port_width}
+use Rattle.chv_defs_scene.specs.ScriptReading.{fields_of, register_of, port_width_of, value_of, port_of, put_bytes_of, name_of, with_none, with_one, with_two, with_three, with_four, jump_of, access_of, math_of, instruction_of, by_fields, line_of, label_in, own_label, is_register, is_port, is_put, is_instruction}
 use Rattle.chv_script.proofs.KindLemmas.{is_plain, plain_no_space, plain_no_feed, registers, memory_widths, port_widths, values, ports, names}
 use Rattle.chv_num.proofs.PairBytes.{are_bytes}
 use Rattle.chv_script.proofs.FieldLemmas.{no_space}

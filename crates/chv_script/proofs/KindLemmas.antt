@@ -13,7 +13,8 @@ use Rattle.chv_defs_base.specs.Numbers.{is_decimal_digit, is_hex_digit, are_digi
 use Rattle.chv_defs_base.specs.declared.rule.Reason.{Reason}
 use Rattle.chv_defs_base.specs.declared.rule.Reason.TheVariants.{BadRegister, BadWidth, BadHex, BadName}
 use Rattle.chv_defs_scene.specs.ScriptText.{register}
-use Rattle.chv_defs_scene.specs.ScriptReading.{kept, is_register, register_of, memory_width_of, is_port_width, port_width_of, value_of, is_port, port_of, name_of}
+use Rattle.chv_defs_api.specs.Registers.{is_port_width}
+use Rattle.chv_defs_scene.specs.ScriptReading.{kept, is_register, register_of, memory_width_of, port_width_of, value_of, is_port, port_of, name_of}
 use Rattle.chv_num.proofs.Bases.{decimal_base}
 use Rattle.chv_num.proofs.Spelling.{one_spelling, read_back}
 use Rattle.chv_num.proofs.HexSpelling.{chosen as some_chosen, hex_one_spelling, hex_read_back}

@@ -3,6 +3,7 @@ ghost use Rattle.std.specs.Prelude.{◌≡◌, ◌&&◌, if◌then◌else◌, na
 ghost use Rattle.std.specs.List.{list_all};
 ghost use Rattle.chv_defs_base.specs.Id.{is_id, is_id_byte};
 ghost use Rattle.chv_defs_base.specs.Numbers.{dec, is_width};
+ghost use Rattle.chv_defs_api.specs.Registers as registers;
 ghost use Rattle.chv_defs_scene.specs.ScriptReading as script;
 ghost use Rattle.chv_script.specs.Answer.{Gives};
 
@@ -59,7 +60,7 @@ pub(crate) fn memory_width(field: &[u8]) -> Result<u8, Stop>
 }
 
 fn is_port_width(number: u64) -> bool
-    ensures { result ≡ script.is_port_width number }
+    ensures { result ≡ registers.is_port_width number }
 {
     number == 1 || number == 2 || number == 4
 }

@@ -77,7 +77,11 @@ impl TestDesk {
 }
 
 impl Desk<()> for TestDesk {
+    ghost use Rattle.std.specs.Prelude.{None};
+
     ghost caller = { λ d. 1 };
+
+    ghost context = { λ _. None };
 
     ghost answers = { λ d. d.made.items };
 

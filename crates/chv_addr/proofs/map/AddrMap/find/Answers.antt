@@ -1,7 +1,8 @@
 use Rattle.std.proofs.Common.{◌+◌, ◌≤◌, ◌^◌, sym, ◌∙◌, subst}
 use Rattle.std.specs.Prelude.{All, List}
 use Rattle.chv_addr.specs.declared.run.Run.{Run}
-use Rattle.chv_addr.specs.AddressMap.{holds, run_bytes, slots, window_bytes, window_start}
+use Rattle.chv_defs_api.specs.Registers.{window_bytes, window_start}
+use Rattle.chv_addr.specs.AddressMap.{holds, run_bytes, slots}
 use Rattle.chv_addr.proofs.RunSearch.{find-in, find-passes}
 use Rattle.chv_addr.proofs.map.AddrMap.find.Goals as goal
 
