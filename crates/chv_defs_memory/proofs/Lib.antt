@@ -1,3 +1,6 @@
 pub mod GoingOn
+pub mod LentLaws
+pub mod LentPins
 pub mod MadeLaws
+pub mod OwnPins
 pub mod ZoneLaws

@@ -4,6 +4,7 @@ pub mod BlockSets
 pub mod LastByte
 pub mod LegalBank
 pub mod Lending
+pub mod LentHistory
 pub mod MadeCalls
 pub mod PageContents
 pub mod Zones

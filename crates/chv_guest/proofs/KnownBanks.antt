@@ -10,9 +10,9 @@ use Rattle.chv_defs_memory.specs.declared.bank.Refusal.{Refusal}
 use Rattle.chv_defs_memory.specs.BankState.{banks}
 use Rattle.chv_defs_memory.specs.BankBook.{BankBook, fresh, refused_or, room_refusal}
 use Rattle.chv_defs_memory.specs.Zones.{book_of, first_due, most_zones, zone_refusal, GivesBack, GoesOn, Known, MakesRoom, OtherZonesStay}
-use Rattle.chv_guest.specs.LentBanks.{bank_at, banks_of, change_zone, known_at, AreAllBanks}
+use Rattle.chv_guest.specs.LentBanks.{bank_at, banks_of, change_zone, known_at, AreAllBanks, AreLentTo}
 use Rattle.chv_guest.specs.Room.{is_made, keep_places, refusal_in, with_places}
-use Rattle.chv_guest.proofs.ZoneBanks.{bank-known, bank_at-changed, bank_at-other, zone-fits, zone-known, AreAllBanks-changed, KeepsBook}
+use Rattle.chv_guest.proofs.ZoneBanks.{bank-known, bank_at-changed, bank_at-other, zone-fits, zone-known, AreAllBanks-changed, AreLentTo-changed, KeepsBook}
 
 -- what is known of a bank
 abbrev pub known_of : BankBook → Known
@@ -23,8 +23,8 @@ apart-from : (m n : ℕ) → (m == n) ≡ false → m ≢ n
 apart-from m n h e = grind (arith, nat_tests)
 
 -- a history that is as before goes on by nothing
-pub stays : (before after : List BankEntry) → after ≡ before → GoesOn [] before after
-stays before after same = ([], refl, same ∙ sym (append-nil before))
+pub stays : (lent : List ℕ) (before after : List BankEntry) → after ≡ before → GoesOn lent before after
+stays lent before after same = ([], refl, same ∙ sym (append-nil before))
 
 -- ---- a zone is changed
 
@@ -39,11 +39,11 @@ others-stay books zone change all known = λ z b is other. ap known_of (bank_at-
 pub keep_places-keeps : (keep : ℕ) → KeepsBook (keep_places keep)
 keep_places-keeps keep = record { zone = λ b. refl; bank = λ b. refl; history = λ b. refl }
 
-pub gives_back : (books : List BankBook) (zone bank keep : ℕ) → AreAllBanks books → zone < most_zones → bank < banks → GivesBack [] keep (known_at books zone bank) (known_at (change_zone zone (keep_places keep) books) zone bank)
-gives_back books zone bank keep all known inside =
-    subst (λ (after : Known). GivesBack [] keep (known_at books zone bank) after)
+pub gives_back : (lent : List ℕ) (books : List BankBook) (zone bank keep : ℕ) → AreAllBanks books → zone < most_zones → bank < banks → GivesBack lent keep (known_at books zone bank) (known_at (change_zone zone (keep_places keep) books) zone bank)
+gives_back lent books zone bank keep all known inside =
+    subst (λ (after : Known). GivesBack lent keep (known_at books zone bank) after)
     (sym (known-changed books zone bank (keep_places keep) all known inside))
-    (stays (bank_at books zone bank).history (bank_at books zone bank).history refl, refl)
+    (stays lent (bank_at books zone bank).history (bank_at books zone bank).history refl, refl)
 
 -- ---- room
 
@@ -51,7 +51,7 @@ pub with_places-keeps : (entries pages : ℕ) → KeepsBook (with_places entries
 with_places-keeps entries pages = record { zone = λ b. refl; bank = λ b. refl; history = λ b. refl }
 
 -- what is known of a bank is all of it
-book-known : (books : List BankBook) (zone bank : ℕ) → AreAllBanks books → zone < most_zones → bank < banks → book_of zone bank (known_at books zone bank) ≡ bank_at books zone bank
+pub book-known : (books : List BankBook) (zone bank : ℕ) → AreAllBanks books → zone < most_zones → bank < banks → book_of zone bank (known_at books zone bank) ≡ bank_at books zone bank
 book-known books zone bank all known inside =
     let b : BankBook = bank_at books zone bank in
     ap (λ (z : ℕ). record b { zone = z; bank = bank }) (sym (zone-known books zone bank all known inside))
@@ -73,27 +73,27 @@ refusal_in-zone books zone entries pages all known =
     ∙ get_or-drop (zone * banks) books bank (fresh zone bank)
     ∙ sym (book-known books zone bank all known inside))))
 
-pub makes_room : (books : List BankBook) (zone entries pages : ℕ) (answer : Result (Result (Unit {0}) Refusal) AllocError) → AreAllBanks books → zone < most_zones
+pub makes_room : (lent : List ℕ) (books : List BankBook) (zone entries pages : ℕ) (answer : Result (Result (Unit {0}) Refusal) AllocError) → AreAllBanks books → zone < most_zones
     → IfOk answer (λ a. a ≡ refused_or (refusal_in (banks_of zone books) entries pages) tt)
-    → IfOk answer (λ a. MakesRoom [] (known_at books zone) (known_at (if is_made answer then change_zone zone (with_places entries pages) books else books) zone) zone entries pages tt a)
-makes_room books zone entries pages (Ok (Ok done)) all known answered =
+    → IfOk answer (λ a. MakesRoom lent (known_at books zone) (known_at (if is_made answer then change_zone zone (with_places entries pages) books else books) zone) zone entries pages tt a)
+makes_room lent books zone entries pages (Ok (Ok done)) all known answered =
     let changed : (bank : ℕ) → bank < banks → known_at (change_zone zone (with_places entries pages) books) zone bank ≡ known_of (with_places entries pages (bank_at books zone bank)) = λ bank inside. known-changed books zone bank (with_places entries pages) all known inside in
     record {
       at = λ bank. (bank_at books zone bank).history;
-      seen = λ bank inside. stays (bank_at books zone bank).history (bank_at books zone bank).history refl;
-      later = λ bank inside. stays (bank_at books zone bank).history (known_at (change_zone zone (with_places entries pages) books) zone bank).history (ap (λ (k : Known). k.history) (changed bank inside));
+      seen = λ bank inside. stays lent (bank_at books zone bank).history (bank_at books zone bank).history refl;
+      later = λ bank inside. stays lent (bank_at books zone bank).history (known_at (change_zone zone (with_places entries pages) books) zone bank).history (ap (λ (k : Known). k.history) (changed bank inside));
       answered = answered ∙ ap (λ (due : Option Refusal). refused_or due tt) (refusal_in-zone books zone entries pages all known);
       reserved = λ bank inside. changed bank inside ∙ ap (λ (h : List BankEntry). record (known_of (with_places entries pages (bank_at books zone bank))) { history = h }) (sym (ap (λ (k : Known). k.history) (changed bank inside)));
     }
-makes_room books zone entries pages (Ok (Err why)) all known answered =
+makes_room lent books zone entries pages (Ok (Err why)) all known answered =
     record {
       at = λ bank. (bank_at books zone bank).history;
-      seen = λ bank inside. stays (bank_at books zone bank).history (bank_at books zone bank).history refl;
-      later = λ bank inside. stays (bank_at books zone bank).history (bank_at books zone bank).history refl;
+      seen = λ bank inside. stays lent (bank_at books zone bank).history (bank_at books zone bank).history refl;
+      later = λ bank inside. stays lent (bank_at books zone bank).history (bank_at books zone bank).history refl;
       answered = answered ∙ ap (λ (due : Option Refusal). refused_or due tt) (refusal_in-zone books zone entries pages all known);
       reserved = λ bank inside. refl;
     }
-makes_room books zone entries pages (Err none) all known answered = answered
+makes_room lent books zone entries pages (Err none) all known answered = answered
 
 -- after room the other zones are as before, and these are all banks
 pub others-stay-room : (books : List BankBook) (zone entries pages : ℕ) (answer : Result (Result (Unit {0}) Refusal) AllocError) → AreAllBanks books → zone < most_zones
@@ -107,3 +107,9 @@ pub AreAllBanks-room : (books : List BankBook) (zone entries pages : ℕ) (answe
 AreAllBanks-room books zone entries pages (Ok (Ok done)) all known = AreAllBanks-changed books zone (with_places entries pages) (with_places-keeps entries pages) known all
 AreAllBanks-room books zone entries pages (Ok (Err why)) all known = all
 AreAllBanks-room books zone entries pages (Err none) all known = all
+
+pub AreLentTo-room : (lent : List ℕ) (books : List BankBook) (zone entries pages : ℕ) (answer : Result (Result (Unit {0}) Refusal) AllocError) → AreAllBanks books → zone < most_zones → AreLentTo lent books
+    → AreLentTo lent (if is_made answer then change_zone zone (with_places entries pages) books else books)
+AreLentTo-room lent books zone entries pages (Ok (Ok done)) all known lent_to = AreLentTo-changed lent books zone (with_places entries pages) (with_places-keeps entries pages) known all lent_to
+AreLentTo-room lent books zone entries pages (Ok (Err why)) all known lent_to = lent_to
+AreLentTo-room lent books zone entries pages (Err none) all known lent_to = lent_to

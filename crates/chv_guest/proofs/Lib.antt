@@ -1,7 +1,9 @@
+pub mod CallerFlags
 pub mod Entries
 pub mod KnownBanks
+pub mod LentZones
 pub mod NoOthers
-pub mod OwnEntries
+pub mod Reached
 pub mod Refusals
 pub mod SameBanks
 pub mod ZoneBanks

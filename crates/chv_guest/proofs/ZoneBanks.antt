@@ -1,22 +1,20 @@
 -- The banks of one zone among all banks.
-use Rattle.std.proofs.Common.{◌≡◌, ◌≢◌, ℕ, ◌+◌, ◌-◌, ◌*◌, ◌<◌, ◌≤◌, ◌%◌, ◌⊎◌, inl, inr, ⊎_elim, Bool, true, false, List, [], ◌∷◌, ◌++◌, length, get_or, set, take, drop, map, sym, ap, subst, ◌∙◌, refl, arith}
+use Rattle.std.proofs.Common.{◌≡◌, ◌≢◌, ℕ, ◌+◌, ◌-◌, ◌*◌, ◌<◌, ◌≤◌, ◌%◌, ◌⊎◌, inl, inr, ⊎_elim, Bool, true, false, List, [], ◌++◌, length, get_or, set, take, drop, map, sym, ap, subst, ◌∙◌, refl, arith}
 use Rattle.std.specs.Prelude.{◌==◌}
-use Rattle.std.specs.List.{list_all}
 use Rattle.std.proofs.lemmas.Bool.{cases_lt}
 use Rattle.std.proofs.lemmas.Bool.Decides.{nat_tests}
-use Rattle.std.proofs.lemmas.List.Folds.{list_all-append}
 use Rattle.std.proofs.lemmas.Nat.{mul-add-lt, div-mul-add, mod-mul-add}
 use Rattle.std.proofs.lemmas.List.{length-take, length-take-le, length-map, length-drop, length-append, get_or-append_right, get_or_append_left, get_or-map, get_or-take, get_or-drop, get_or_default, get_or-set_same, get_or-set_other, length-set}
 use Rattle.std.proofs.lemmas.List.FromFn.{length-map-range_with_len, get_or-map-range_with_len}
 use Rattle.std.proofs.Math.Nat.{mul-le-mul_right}
-use Rattle.chv_defs_memory.specs.declared.bank.BankCall.{BankCall}
-use Rattle.chv_defs_memory.specs.declared.bank.BankReply.{BankReply}
 use Rattle.chv_defs_memory.specs.declared.bank.BankEntry.{BankEntry}
-use Rattle.chv_defs_memory.specs.BankState.{banks, is_owner_call}
-use Rattle.chv_defs_memory.specs.BankBook.{with_entry, BankBook, fresh}
+use Rattle.chv_defs_memory.specs.BankState.{banks}
+use Rattle.chv_defs_memory.specs.BankBook.{BankBook, fresh}
 use Rattle.chv_defs_memory.specs.LegalBank.{IsLegal}
+use Rattle.chv_defs_memory.specs.LentHistory.{IsLentTo}
 use Rattle.chv_defs_memory.specs.Zones.{most_zones}
-use Rattle.chv_guest.specs.LentBanks.{bank_at, bank_count, change_zone, fresh_at, fresh_banks, is_own, known_at, AreAllBanks, IsBankAt}
+use Rattle.chv_defs_memory.proofs.LentLaws.{lent-new}
+use Rattle.chv_guest.specs.LentBanks.{bank_at, bank_count, change_zone, fresh_at, fresh_banks, known_at, AreAllBanks, AreLentTo, IsBankAt}
 
 -- ---- lists, a part of which is changed
 
@@ -108,41 +106,48 @@ bank-set books zone bank place b all known inside here =
     ap (λ (p : ℕ). bank_at (set books p b) zone bank) here
     ∙ get_or-set_same books (zone * banks + bank) b (fresh zone bank) (omega (arith, place-fits zone bank known inside, all.all))
 
--- ---- a call of the owner is entered
+-- ---- one bank is changed
 
 other-place : (i p : ℕ) → (i == p) ≡ false → i ≢ p
 other-place i p e same = grind (arith, nat_tests)
 
-AreAllBanks-set : (books : List BankBook) (p : ℕ) (b : BankBook) → AreAllBanks books → p < bank_count → IsBankAt p b → AreAllBanks (set books p b)
-AreAllBanks-set books p b all fits is = record {
-  all = length-set books p b ∙ all.all;
-  each = λ i low. by i low (i == p) refl;
-}
+-- what holds of each bank by its place
+abbrev pub ForEach : (ℕ → BankBook → Type 0) → List BankBook → Type 0
+ForEach P books = (place : ℕ) → place < bank_count → P place (get_or books place (fresh 0 0))
+
+-- still holds where one is put for which it does
+each-put : (P : ℕ → BankBook → Type 0) (books : List BankBook) (p : ℕ) (b : BankBook) → length books ≡ bank_count → p < bank_count → P p b → ForEach P books → ForEach P (set books p b)
+each-put P books p b all fits is each = λ i low. by i low (i == p) refl
   where
-    by : (i : ℕ) → i < bank_count → (v : Bool) → (i == p) ≡ v → IsBankAt i (get_or (set books p b) i (fresh 0 0))
+    by : (i : ℕ) → i < bank_count → (v : Bool) → (i == p) ≡ v → P i (get_or (set books p b) i (fresh 0 0))
     by i low true e =
         let same : p ≡ i = grind (arith, nat_tests) in
-        subst (λ (n : ℕ). IsBankAt n (get_or (set books p b) n (fresh 0 0))) same
-        (subst (λ (x : BankBook). IsBankAt p x) (sym (get_or-set_same books p b (fresh 0 0) (omega (arith, all.all)))) is)
+        subst (λ (n : ℕ). P n (get_or (set books p b) n (fresh 0 0))) same
+        (subst (λ (x : BankBook). P p x) (sym (get_or-set_same books p b (fresh 0 0) (omega (arith, all)))) is)
     by i low false e =
-        subst (λ (x : BankBook). IsBankAt i x) (sym (get_or-set_other books p i b (fresh 0 0) (other-place i p e))) (all.each i low)
+        subst (λ (x : BankBook). P i x) (sym (get_or-set_other books p i b (fresh 0 0) (other-place i p e))) (each i low)
 
-own-entered : (history : List BankEntry) (c : BankCall) (r : BankReply) → list_all is_own history ≡ true → is_owner_call c ≡ true → list_all is_own (with_entry history 0 c r) ≡ true
-own-entered history c r all own =
-    list_all-append is_own history (record { caller = 0; call = c; reply = r } ∷ []) ∙ rw (all, own) refl
-
--- a bank with one more entry of the owner, after which its history is legal, stays the one of its place
-pub AreAllBanks-entered : (books : List BankBook) (zone bank place : ℕ) (c : BankCall) (r : BankReply) (b : BankBook) → AreAllBanks books → zone < most_zones → bank < banks → place ≡ zone * banks + bank → is_owner_call c ≡ true
-    → b.zone ≡ (bank_at books zone bank).zone → b.bank ≡ (bank_at books zone bank).bank → b.history ≡ with_entry (bank_at books zone bank).history 0 c r → IsLegal b.bank b.history → AreAllBanks (set books place b)
-AreAllBanks-entered books zone bank place c r b all known inside here call zone_is bank_is history legal =
+-- a bank in place of one, with a legal history, leaves these all banks
+pub AreAllBanks-put : (books : List BankBook) (zone bank place : ℕ) (b : BankBook) → AreAllBanks books → zone < most_zones → bank < banks → place ≡ zone * banks + bank
+    → b.zone ≡ (bank_at books zone bank).zone → b.bank ≡ (bank_at books zone bank).bank → IsLegal b.bank b.history → AreAllBanks (set books place b)
+AreAllBanks-put books zone bank place b all known inside here zone_is bank_is legal =
     let at : IsBankAt (zone * banks + bank) (bank_at books zone bank) = at-place books zone bank all known inside in
     subst (λ (p : ℕ). AreAllBanks (set books p b)) (sym here)
-    (AreAllBanks-set books (zone * banks + bank) b all (place-fits zone bank known inside) (record {
-      zone = zone_is ∙ at.zone;
-      bank = bank_is ∙ at.bank;
-      own = ap (λ (h : List BankEntry). list_all is_own h) history ∙ own-entered (bank_at books zone bank).history c r at.own call;
-      legal = legal;
-    }))
+    (record {
+      all = length-set books (zone * banks + bank) b ∙ all.all;
+      each = each-put IsBankAt books (zone * banks + bank) b all.all (place-fits zone bank known inside)
+          (record { zone = zone_is ∙ at.zone; bank = bank_is ∙ at.bank; legal = legal }) all.each;
+    })
+
+-- and lent to the same contexts where its history is
+pub AreLentTo-put : (lent : List ℕ) (books : List BankBook) (zone bank place : ℕ) (b : BankBook) → AreAllBanks books → zone < most_zones → bank < banks → place ≡ zone * banks + bank
+    → IsLentTo lent b.history → AreLentTo lent books → AreLentTo lent (set books place b)
+AreLentTo-put lent books zone bank place b all known inside here is lent_to =
+    subst (λ (p : ℕ). AreLentTo lent (set books p b)) (sym here)
+    (record {
+      callers = lent_to.callers;
+      each = each-put (λ (p : ℕ) (x : BankBook). IsLentTo lent x.history) books (zone * banks + bank) b all.all (place-fits zone bank known inside) is lent_to.each;
+    })
 
 -- ---- a zone is changed
 
@@ -157,7 +162,6 @@ IsBankAt-change : (place : ℕ) (change : BankBook → BankBook) (b : BankBook) 
 IsBankAt-change place change b keeps here = record {
   zone = keeps.zone b ∙ here.zone;
   bank = keeps.bank b ∙ here.bank;
-  own = ap (λ (h : List BankEntry). list_all is_own h) (keeps.history b) ∙ here.own;
   legal = subst (λ (n : ℕ). IsLegal n (change b).history) (sym (keeps.bank b)) (subst (λ (h : List BankEntry). IsLegal b.bank h) (sym (keeps.history b)) here.legal);
 }
 
@@ -173,28 +177,40 @@ bank_at-other books zone z b change all known inside ne =
     (λ above. changed-above (zone * banks) banks (z * banks + b) change books (fresh z b) above fits)
     (apart banks z b zone 0 inside (omega arith) ne)
 
+-- what holds of each bank holds where a zone is changed, if the change leaves it
+each-changed : (P : ℕ → BankBook → Type 0) (books : List BankBook) (zone : ℕ) (change : BankBook → BankBook) → ((place : ℕ) (b : BankBook) → P place b → P place (change b)) → zone < most_zones → length books ≡ bank_count
+    → ForEach P books → ForEach P (change_zone zone change books)
+each-changed P books zone change kept known all each =
+    let fits : zone * banks + banks ≤ length books = omega (arith, zone-fits zone known, all) in
+    λ place here.
+    ⊎_elim
+    (λ (below : place < zone * banks). subst (λ (b : BankBook). P place b)
+    (sym (changed-below (zone * banks) banks place change books (fresh 0 0) below fits)) (each place here))
+    (λ (from : zone * banks ≤ place). ⊎_elim
+    (λ (inside : place < zone * banks + banks).
+    let at : zone * banks + (place - zone * banks) ≡ place = omega arith in
+    subst (λ (p : ℕ). P place (get_or (change_zone zone change books) p (fresh 0 0))) at
+    (subst (λ (b : BankBook). P place b)
+    (sym (changed-inside (zone * banks) banks (place - zone * banks) change books (fresh 0 0) (omega arith) fits))
+    (kept place (get_or books (zone * banks + (place - zone * banks)) (fresh 0 0))
+    (subst (λ (p : ℕ). P place (get_or books p (fresh 0 0))) (sym at) (each place here)))))
+    (λ (above : zone * banks + banks ≤ place). subst (λ (b : BankBook). P place b)
+    (sym (changed-above (zone * banks) banks place change books (fresh 0 0) above fits)) (each place here))
+    (cases_lt place (zone * banks + banks)))
+    (cases_lt place (zone * banks))
+
 pub AreAllBanks-changed : (books : List BankBook) (zone : ℕ) (change : BankBook → BankBook) → KeepsBook change → zone < most_zones → AreAllBanks books → AreAllBanks (change_zone zone change books)
-AreAllBanks-changed books zone change keeps known all =
-    let fits : zone * banks + banks ≤ length books = omega (arith, zone-fits zone known, all.all) in
-    record {
-      all = length-changed (zone * banks) banks change books ∙ all.all;
-      each = λ place here.
-          ⊎_elim
-          (λ (below : place < zone * banks). subst (λ (b : BankBook). IsBankAt place b)
-          (sym (changed-below (zone * banks) banks place change books (fresh 0 0) below fits)) (all.each place here))
-          (λ (from : zone * banks ≤ place). ⊎_elim
-          (λ (inside : place < zone * banks + banks).
-          let at : zone * banks + (place - zone * banks) ≡ place = omega arith in
-          subst (λ (p : ℕ). IsBankAt place (get_or (change_zone zone change books) p (fresh 0 0))) at
-          (subst (λ (b : BankBook). IsBankAt place b)
-          (sym (changed-inside (zone * banks) banks (place - zone * banks) change books (fresh 0 0) (omega arith) fits))
-          (IsBankAt-change place change (get_or books (zone * banks + (place - zone * banks)) (fresh 0 0)) keeps
-          (subst (λ (p : ℕ). IsBankAt place (get_or books p (fresh 0 0))) (sym at) (all.each place here)))))
-          (λ (above : zone * banks + banks ≤ place). subst (λ (b : BankBook). IsBankAt place b)
-          (sym (changed-above (zone * banks) banks place change books (fresh 0 0) above fits)) (all.each place here))
-          (cases_lt place (zone * banks + banks)))
-          (cases_lt place (zone * banks));
-    }
+AreAllBanks-changed books zone change keeps known all = record {
+  all = length-changed (zone * banks) banks change books ∙ all.all;
+  each = each-changed IsBankAt books zone change (λ place b is. IsBankAt-change place change b keeps is) known all.all all.each;
+}
+
+pub AreLentTo-changed : (lent : List ℕ) (books : List BankBook) (zone : ℕ) (change : BankBook → BankBook) → KeepsBook change → zone < most_zones → AreAllBanks books → AreLentTo lent books → AreLentTo lent (change_zone zone change books)
+AreLentTo-changed lent books zone change keeps known all lent_to = record {
+  callers = lent_to.callers;
+  each = each-changed (λ (p : ℕ) (b : BankBook). IsLentTo lent b.history) books zone change
+      (λ place b is. subst (λ (h : List BankEntry). IsLentTo lent h) (sym (keeps.history b)) is) known all.all lent_to.each;
+}
 
 -- ---- nothing happened yet
 
@@ -205,5 +221,12 @@ pub AreAllBanks-fresh : AreAllBanks fresh_banks
 AreAllBanks-fresh = record {
   all = length-map-range_with_len fresh_at 0 bank_count;
   each = λ place here. subst (λ (b : BankBook). IsBankAt place b) (sym (get_or-map-range_with_len fresh_at 0 bank_count place place (fresh 0 0) here (omega arith)))
-      (record { zone = refl; bank = refl; own = refl; legal = nothing-legal (place % banks) });
+      (record { zone = refl; bank = refl; legal = nothing-legal (place % banks) });
+}
+
+pub AreLentTo-fresh : AreLentTo [] fresh_banks
+AreLentTo-fresh = record {
+  callers = refl;
+  each = λ place here. subst (λ (b : BankBook). IsLentTo [] b.history) (sym (get_or-map-range_with_len fresh_at 0 bank_count place place (fresh 0 0) here (omega arith)))
+      lent-new;
 }

@@ -1,10 +1,11 @@
 -- The banks of all zones in one list: those of zone 0, then those of zone 1, and so on.
-use Rattle.std.specs.Prelude.{◌≡◌, ◌<◌, ℕ, ◌+◌, ◌*◌, ◌/◌, ◌%◌, ◌==◌, ◌&&◌, Bool, true, List, ◌++◌, [], length, map, get_or, take, drop}
-use Rattle.std.specs.List.{list_all, range_with_len}
-use Rattle.chv_defs_memory.specs.declared.bank.BankEntry.{BankEntry}
-use Rattle.chv_defs_memory.specs.BankState.{banks, is_owner_call}
+use Rattle.std.specs.Prelude.{◌≡◌, ◌<◌, ℕ, ◌+◌, ◌*◌, ◌/◌, ◌%◌, false, List, ◌++◌, [], length, map, get_or, take, drop}
+use Rattle.std.specs.List.{range_with_len}
+use Rattle.chv_defs_memory.specs.BankState.{banks}
 use Rattle.chv_defs_memory.specs.BankBook.{BankBook, fresh}
 use Rattle.chv_defs_memory.specs.LegalBank.{IsLegal}
+use Rattle.chv_defs_memory.specs.Lending.{is_in}
+use Rattle.chv_defs_memory.specs.LentHistory.{IsLentTo}
 use Rattle.chv_defs_memory.specs.Zones.{most_zones, Known}
 
 -- how many banks there are
@@ -42,21 +43,21 @@ known_at books zone bank =
     let book = bank_at books zone bank in
     record { history = book.history; entries = book.entries; pages = book.pages }
 
--- whether an entry is a call of the owner by the owner
-abbrev pub is_own : BankEntry → Bool
-is_own e = e.caller == 0 && is_owner_call e.call
-
--- a bank is the one of its place, its history is legal, and all its entries are the owner's, as no context was ever lent
+-- a bank is the one of its place, and its history is legal
 pub record IsBankAt (place : ℕ) (book : BankBook) : Type 0 where
   pub zone : book.zone ≡ place / banks
   pub bank : book.bank ≡ place % banks
-  pub own : list_all is_own book.history ≡ true
   pub legal : IsLegal book.bank book.history
 
 -- these are the banks of all zones, each at its place
 pub record AreAllBanks (books : List BankBook) : Type 0 where
   pub all : length books ≡ bank_count
   pub each : (place : ℕ) → place < bank_count → IsBankAt place (get_or books place (fresh 0 0))
+
+-- All banks are lent to these contexts alone, of which none is caller 0, the owner.
+pub record AreLentTo (lent : List ℕ) (books : List BankBook) : Type 0 where
+  pub callers : is_in 0 lent ≡ false
+  pub each : (place : ℕ) → place < bank_count → IsLentTo lent (get_or books place (fresh 0 0)).history
 
 -- ---- the banks of one zone
 
