@@ -110,13 +110,14 @@ instruction_shapes =
     ∷ (codes "jlt", Register ∷ Register ∷ Label ∷ [])
     ∷ []
 
--- The requests of sessions, but for `put`, whose body is the rest of its line; the steps of the order; and the lines outside of
--- the sections.
+-- The lines of a session's section, but for `put`, whose body is the rest of its line.
 abbrev pub session_shapes : List (List ℕ × List Kind)
 session_shapes = (codes "get", RouteName ∷ []) ∷ (codes "raw", Pairs ∷ []) ∷ (codes "end", []) ∷ []
 
+-- The lines of the order.
 abbrev pub order_shapes : List (List ℕ × List Kind)
 order_shapes = (codes "s", Number 0 (2 ^ 64 - 1) ∷ []) ∷ (codes "v", Number 0 (2 ^ 64 - 1) ∷ []) ∷ (codes "q", []) ∷ (codes "end", []) ∷ []
 
+-- The lines outside of the sections.
 abbrev pub top_shapes : List (List ℕ × List Kind)
 top_shapes = (codes "session", []) ∷ (codes "vcpu", Number 0 15 ∷ Number 0 1048576 ∷ []) ∷ (codes "order", []) ∷ (codes "disk", DiskName ∷ Number 1 8192 ∷ []) ∷ []

@@ -32,6 +32,7 @@ abbrev pub grown : List (List ℕ) → Stand → Line → Outline
 grown heads Outer line = record { heads = heads ++ line.text ∷ []; stand = Inner line.text [] }
 grown heads (Inner head lines) line = record { heads = heads; stand = if is_end line then Outer else Inner head (lines ++ line.text ∷ []) }
 
+-- so many lines more
 abbrev pub outline_on : Outline → List Line → Outline
 outline_on o [] = o
 outline_on o (line ∷ lines) = outline_on (grown o.heads o.stand line) lines
