@@ -1,8 +1,26 @@
 """Slips that people make in a scenario, told in their own words."""
+import re
+
+from .grammar import OPENERS, fields_of, has_its_fields, word_of, words
 from .units import shown
 
-WORDS = (b"get", b"put", b"raw", b"end", b"session")
-OF_LINES = ("UnknownWord", "FieldCount", "BadName", "BadHex", "BadNumber")
+OF_LINES = ("UnknownWord", "FieldCount", "BadRegister", "BadWidth", "BadNumber", "BadHex", "BadName")
+COMMENTS = ("#", ";", "//")
+
+# what a line does that belongs into a section of this kind, and what opens one
+BELONGS = {
+    "session": ("asks something within a session", "session"),
+    "vcpu": ("is an instruction within a vCPU's section", "vcpu N FUEL"),
+    "order": ("is a step within the order", "order"),
+}
+
+# what is wrong besides with a line that opens a section, by the section that has no end before it
+BESIDES = {
+    ("session", "vcpu"): " And move this section up: vCPUs stand before all sessions.",
+    ("order", "vcpu"): " And move this section up: vCPUs stand before all sessions.",
+    ("order", "session"): " And move this section up: the order stands last.",
+    ("order", "order"): " And put the steps into that one: a scenario has one order.",
+}
 
 
 def carriage_return(reason, line, place):
@@ -12,10 +30,11 @@ def carriage_return(reason, line, place):
 
 
 def comment(reason, line, place):
-    if line.lstrip(b" \t").startswith(b"#"):
-        return "a line with a `#`: a scenario has no comments. Take the line out."
-    if b" #" in line and reason in ("FieldCount", "BadHex"):
-        return "a `#` stands behind what the line asks: a scenario has no comments. Take it out, and the space before it."
+    for mark in COMMENTS:
+        if line.lstrip(b" \t").startswith(mark.encode()):
+            return f"a line with a `{mark}`: a scenario has no comments. Take the line out."
+        if b" " + mark.encode() in line and reason in ("FieldCount", "BadHex"):
+            return f"a `{mark}` stands behind what the line asks: a scenario has no comments. Take it out, and the space before it."
 
 
 def indented(reason, line, place):
@@ -29,46 +48,78 @@ def blank(reason, line, place):
 
 
 def forgotten_end(reason, line, place):
-    if place.open is not None and reason == "UnknownWord" and line.split(b" ", 1)[0] in (b"session", b"order"):
-        return (f"the session that line {place.open} opens has no `end` before this `{shown(line)}`. "
-                "Put a line `end` behind its last request.")
+    word = word_of(line)
+    if place.open is not None and reason == "UnknownWord" and word in OPENERS:
+        besides = " And leave this line out: disks are not built yet." if word == "disk" else BESIDES.get((place.kind, word), "")
+        return (f"{place.open.called()} has no `end` before this `{shown(line)}`. "
+                f"Put a line `end` behind its last {place.open.part()}.{besides}")
 
 
-def no_session(reason, line, place):
-    word = line.split(b" ", 1)[0]
-    if place.open is None and reason == "UnknownWord" and word in (b"get", b"put", b"raw"):
-        return f"`{shown(word)}` asks something within a session, and none is open here. Put a line `session` before it."
-    if place.open is None and reason == "UnknownWord" and word == b"end":
-        return "no section is open here: this `end` is one too many, or its `session` is missing."
+def owner(line):
+    """The kind of section in which a line with this word stands, by its register where two have the word."""
+    kinds = [kind for kind in BELONGS if word_of(line) in words(kind) and word_of(line) != "end"]
+    if len(kinds) > 1:
+        return "vcpu" if re.match(rb"\w+ r\d+( |$)", line) else "session"
+    return kinds[0] if kinds else None
+
+
+def misplaced(reason, line, place):
+    kind = owner(line) if reason == "UnknownWord" else None
+    word = word_of(line)
+    if kind is not None and place.open is None:
+        return f"`{word}` {BELONGS[kind][0]}, and none is open here. Put a line `{BELONGS[kind][1]}` before it."
+    if kind is not None:
+        return f"`{word}` {BELONGS[kind][0]}, and this is {place.open.called()}. Take it out, or end the section before it."
+    if reason == "UnknownWord" and line == b"end":
+        return "no section is open here: this `end` is one too many, or its `session`, `vcpu` or `order` is missing."
 
 
 def upper_case(reason, line, place):
-    word = line.split(b" ", 1)[0]
-    if reason == "UnknownWord" and word.lower() in WORDS:
-        return f"words are in lower case: `{shown(word.lower())}`."
+    word = word_of(line)
+    if reason == "UnknownWord" and word.lower() in words(place.kind) + list(OPENERS):
+        return f"words are in lower case: `{word.lower()}`."
+
+
+def own_style(reason, line, place):
+    label = re.fullmatch(rb"([A-Za-z0-9_-]{1,32}):", line.rstrip(b" "))
+    if place.kind == "vcpu" and reason == "UnknownWord" and label:
+        return f"a label is written `at {shown(label[1])}`."
+    step = re.fullmatch(rb"([sv])([0-9]+)", line)
+    if place.kind == "order" and reason == "UnknownWord" and step:
+        return f"one space parts a word and its number: `{shown(step[1])} {shown(step[2])}`."
+
+
+def commas(reason, line, place):
+    if place.kind == "vcpu" and b"," in line and has_its_fields("vcpu", line.replace(b", ", b",").replace(b",", b" ")):
+        return "a comma stands in the line: one space alone parts two fields. Take the commas away."
 
 
 def tab(reason, line, place):
-    if reason == "UnknownWord" and line.split(b"\t", 1)[0] in WORDS:
-        return "a tab stands behind the word (shown as \\t): one space parts two fields."
+    asked = b" ".join(line.split(b" ")[:2]) if place.kind == "session" else line
+    if b"\t" not in asked:
+        return None
+    where = "behind the word" if re.match(rb"[a-z]+\t", line) else "in the line"
+    return f"a tab stands {where} (shown as \\t): one space parts two fields."
 
 
 def whole_target(reason, line, place):
     name = line.partition(b" ")[2].split(b" ", 1)[0]
-    if reason == "BadName" and name.startswith((b"/", b"http:", b"api/")):
+    if reason == "BadName" and place.kind == "session" and name.startswith((b"/", b"http:", b"api/")):
         return "a route is named without what stands before it in a URL: `vm.info`, not `/api/v1/vm.info`."
 
 
 def spaces(reason, line, place):
-    if reason == "FieldCount" and line.endswith(b" ") and line.strip(b" ").split(b" ", 1)[0] in WORDS:
+    if reason != "FieldCount":
+        return None
+    if line.endswith(b" ") and has_its_fields(place.kind, line.rstrip(b" ")):
         return "a space stands at the end of the line. Take it away."
-    if reason == "FieldCount" and line.startswith((b"get  ", b"put  ", b"raw  ")):
-        return "two spaces stand behind the word: one space parts two fields."
-    if reason == "FieldCount" and line.startswith(b"get ") and b" {" in line:
+    if b"  " in line and has_its_fields(place.kind, re.sub(rb" +", b" ", line)):
+        return f"two spaces stand {'behind the word' if fields_of(place.kind, line)[0] == b'' else 'together'}: one space parts two fields."
+    if line.startswith(b"get ") and b" {" in line:
         return "a `get` has no body. If the route takes one, it is asked with `put`."
 
 
-SLIPS = (carriage_return, comment, indented, blank, forgotten_end, no_session, upper_case, tab, whole_target, spaces)
+SLIPS = (carriage_return, comment, indented, blank, forgotten_end, misplaced, upper_case, own_style, commas, tab, whole_target, spaces)
 
 
 def slip(reason, line, place):

@@ -57,3 +57,14 @@ def columns(rows, most=64):
             if len(text) <= most:
                 width[place] = max(width.get(place, 0), len(text))
     return ["  ".join(t.ljust(width.get(p, 0)) for p, t in enumerate(row)).rstrip() for row in rows]
+
+
+def wrapped(label, words, most=120):
+    """Words as a list in a sentence behind a label, on as many lines as it needs."""
+    ends = [", "] * (len(words) - 2) + [" or "] * (len(words) > 1) + ["."]
+    lines = [label]
+    for word, end in zip(words, ends):
+        if len(lines[-1] + word + end) > most:
+            lines.append(" " * 15)
+        lines[-1] += word + end
+    return [line.rstrip() for line in lines]
