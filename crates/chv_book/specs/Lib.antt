@@ -1,0 +1,4 @@
+pub mod Histories
+pub mod TicketRule
+pub mod Passes
+pub mod TurnValue
