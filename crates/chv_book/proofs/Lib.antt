@@ -1,7 +1,8 @@
 pub mod Histories
-pub mod FewTickets
-pub mod OneView
-pub mod TakesTurn
-pub mod EndsTurn
-pub mod Seats
-pub mod TurnsTold
+mod FewTickets
+mod Words
+mod OneView
+mod TakesTurn
+mod EndsTurn
+mod Seats
+mod TurnsTold

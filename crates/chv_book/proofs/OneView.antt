@@ -10,8 +10,8 @@ use Rattle.atomic_table.proofs.Lists.{at_set, set_here, set_else, one_turn}
 use Rattle.chv_book.specs.declared.view.View.{View}
 use Rattle.chv_book.specs.declared.view.Stage.{Stage}
 use Rattle.chv_book.specs.declared.view.Stage.TheVariants.{Opening, Idle, Waits, Serves, Joined, Spent}
-use Rattle.chv_book.specs.Histories.{StartsWith, entries_by, has}
-use Rattle.chv_book.specs.TicketRule.{is_live, has_ticket, opening, Board, Lives, HasTicket, Fits, Runs, Kept}
+use Rattle.chv_book.specs.Histories.{StartsWith, entries_by, is_out}
+use Rattle.chv_book.specs.TicketRule.{is_live, has_ticket, opening, Board, Lives, HasTicket, Fits, Runs, GoesInTurns}
 use Rattle.chv_book.proofs.Histories.{starts_trans}
 use Rattle.chv_book.proofs.FewTickets.{no_more_than}
 
@@ -42,22 +42,22 @@ each_set {A} P l i w mine others j u e = ⊎_elim
     (at_set l i j w u e)
 
 module _ {E O : Type 0} (by : E → ℕ) where
-  pub lives_more : (b b' : Board E O) (j : ℕ) (u : View E O) → StartsWith b'.log b.log → entries_by by u.number b'.log ≡ entries_by by u.number b.log → b'.source ≡ b.source
-      → (has u.number b.first.out ≡ true → has u.number b'.first.out ≡ true) → Lives by b j u → Lives by b' j u
+  pub lives_more : (b b' : Board E O) (j : ℕ) (u : View E O) → StartsWith b'.log b.log → entries_by by u.caller b'.log ≡ entries_by by u.caller b.log → b'.source ≡ b.source
+      → (is_out u.caller b.first.out ≡ true → is_out u.caller b'.first.out ≡ true) → Lives by b j u → Lives by b' j u
   lives_more b b' j u grows same src out l = record { below = l.below; front = starts_trans u.seen b.log b'.log l.front grows; own = same ∙ l.own; source_is = l.source_is ∙ ap Some (sym src); listed = λ ne. let p = l.listed ne in (p.0, out p.1) }
 
 module _ {E O : Type 0} where
   abbrev pub Alone : List (View E O) → Type 0
-  Alone views = (i j : ℕ) (v w : View E O) → get_elem? views i ≡ some v → get_elem? views j ≡ some w → is_live v.stage ≡ true → is_live w.stage ≡ true → v.number ≡ w.number → i ≡ j
+  Alone views = (i j : ℕ) (v w : View E O) → get_elem? views i ≡ some v → get_elem? views j ≡ some w → is_live v.stage ≡ true → is_live w.stage ≡ true → v.caller ≡ w.caller → i ≡ j
 
-  pub alone_set : (views : List (View E O)) (id : ℕ) (v w : View E O) → get_elem? views id ≡ some v → Alone views → is_live v.stage ≡ true → w.number ≡ v.number → Alone (set views id w)
+  pub alone_set : (views : List (View E O)) (id : ℕ) (v w : View E O) → get_elem? views id ≡ some v → Alone views → is_live v.stage ≡ true → w.caller ≡ v.caller → Alone (set views id w)
   alone_set views id v w at alone live same i j a b ei ej la lb e = ⊎_elim
       (λ (x : (i ≡ id) × (w ≡ a)). ⊎_elim
       (λ (y : (j ≡ id) × (w ≡ b)). x.0 ∙ sym y.0)
-      (λ (y : (j ≢ id) × (get_elem? views j ≡ some b)). x.0 ∙ alone id j v b at y.1 live lb (sym same ∙ ap (λ (u : View E O). u.number) x.1 ∙ e))
+      (λ (y : (j ≢ id) × (get_elem? views j ≡ some b)). x.0 ∙ alone id j v b at y.1 live lb (sym same ∙ ap (λ (u : View E O). u.caller) x.1 ∙ e))
       (at_set views id j w b ej))
       (λ (x : (i ≢ id) × (get_elem? views i ≡ some a)). ⊎_elim
-      (λ (y : (j ≡ id) × (w ≡ b)). alone i id a v x.1 at la live (e ∙ ap (λ (u : View E O). u.number) (sym y.1) ∙ same) ∙ sym y.0)
+      (λ (y : (j ≡ id) × (w ≡ b)). alone i id a v x.1 at la live (e ∙ ap (λ (u : View E O). u.caller) (sym y.1) ∙ same) ∙ sym y.0)
       (λ (y : (j ≢ id) × (get_elem? views j ≡ some b)). alone i j a b x.1 y.1 la lb e)
       (at_set views id j w b ej))
       (at_set views id i w a ei)
@@ -105,9 +105,9 @@ ticket_lives Serves has = refl
 ticket_lives Joined has = off false has refl
 ticket_lives Spent has = off false has refl
 
-module _ {V E O : Type 0} (by : E → ℕ) (history : V → List E) (side : V → ℕ × ℕ) (origin : V → O) (still : List E → Type 0) where
+module _ {V E O : Type 0} (by : E → ℕ) (history : V → List E) (side : V → ℕ × ℕ) (origin : V → O) (is_still : List E → Bool) where
   -- where some view lives, the value has come into the slot
-  pub running : (s : State (Option V) (View E O)) → Kept by history side origin still s → (id : ℕ) (v : View E O) → get_elem? s.views id ≡ some v → is_live v.stage ≡ true → Runs by history side origin still s
+  pub running : (s : State (Option V) (View E O)) → GoesInTurns by history side origin is_still s → (id : ℕ) (v : View E O) → get_elem? s.views id ≡ some v → is_live v.stage ≡ true → Runs by history side origin is_still s
   running s (inr r) id v at live = r
   running s (inl o) id v at live = absurd (opens_not id (subst (λ (vs : List (View E O)). get_elem? vs id ≡ some v) o.views_are at))
     where
@@ -115,25 +115,25 @@ module _ {V E O : Type 0} (by : E → ℕ) (history : V → List E) (side : V �
       opens_not zero e = off (is_live v.stage) live (ap (λ (u : View E O). is_live u.stage) (sym (some-injective _ _ e)))
       opens_not (suc id) e = some-ne-none v (sym e)
 
-  number_at : maybe.Option (View E O) → ℕ
-  number_at maybe.none = 0
-  number_at (some v) = v.number
+  caller_at : maybe.Option (View E O) → ℕ
+  caller_at maybe.none = 0
+  caller_at (some v) = v.caller
 
   -- no more tickets are out than there are numbers
-  pub few : (s : State (Option V) (View E O)) (r : Runs by history side origin still s) → r.board.drawn ≤ r.board.served + 2 ^ 32
-  unfolding number_at
+  pub few : (s : State (Option V) (View E O)) (r : Runs by history side origin is_still s) → r.board.drawn ≤ r.board.served + 2 ^ 32
+  unfolding caller_at
   few s r =
       let b = r.board in
-      let f : ℕ → ℕ = λ i. number_at (get_elem? s.views (b.holder (b.served + i))) in
+      let f : ℕ → ℕ = λ i. caller_at (get_elem? s.views (b.holder (b.served + i))) in
       let m : ℕ = b.drawn - b.served in
       let below : (i : ℕ) → i < m → f i < 2 ^ 32 = λ i lt.
       let h = r.held (b.served + i) (omega arith) (omega arith) in
       let l = lives_at by b s.homes _ h.0 h.0.stage (r.each _ h.0 h.1) (ticket_lives h.0.stage h.2) in
-      subst (λ (o : maybe.Option (View E O)). number_at o < 2 ^ 32) (sym h.1) l.below in
+      subst (λ (o : maybe.Option (View E O)). caller_at o < 2 ^ 32) (sym h.1) l.below in
       let apart : (i j : ℕ) → i < m → j < m → f i ≡ f j → i ≡ j = λ i j lt lt' e.
       let h = r.held (b.served + i) (omega arith) (omega arith) in
       let k = r.held (b.served + j) (omega arith) (omega arith) in
-      let same : h.0.number ≡ k.0.number = ap number_at (sym h.1) ∙ e ∙ ap number_at k.1 in
+      let same : h.0.caller ≡ k.0.caller = ap caller_at (sym h.1) ∙ e ∙ ap caller_at k.1 in
       let one : b.holder (b.served + i) ≡ b.holder (b.served + j) = r.alone _ _ h.0 k.0 h.1 k.1 (ticket_lives h.0.stage h.2) (ticket_lives k.0.stage k.2) same in
       let view : h.0 ≡ k.0 = some-injective _ _ (sym h.1 ∙ ap (λ (n : ℕ). get_elem? s.views n) one ∙ k.1) in
       let t : b.served + i ≡ b.served + j = sym h.3 ∙ ap (λ (u : View E O). u.ticket) view ∙ k.3 in
@@ -142,5 +142,5 @@ module _ {V E O : Type 0} (by : E → ℕ) (history : V → List E) (side : V �
       omega arith
 
   -- the ticket that is found as the number of turns passed is the one to serve
-  pub its_turn : (s : State (Option V) (View E O)) (r : Runs by history side origin still s) (t : ℕ) → r.board.served ≤ t → t < r.board.drawn → r.board.served % 2 ^ 64 ≡ t % 2 ^ 64 → t ≡ r.board.served
+  pub its_turn : (s : State (Option V) (View E O)) (r : Runs by history side origin is_still s) (t : ℕ) → r.board.served ≤ t → t < r.board.drawn → r.board.served % 2 ^ 64 ≡ t % 2 ^ 64 → t ≡ r.board.served
   its_turn s r t from before e = let f : r.board.drawn ≤ r.board.served + 4294967296 = few s r in sym (one_turn r.board.served t (2 ^ 64) from (omega arith) e)

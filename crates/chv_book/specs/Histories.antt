@@ -1,29 +1,35 @@
--- Entries with their callers, and numbers that are out.
-use Rattle.std.specs.Prelude.{◌≡◌, ℕ, List, [], ◌∷◌, ◌++◌, ◌==◌, length, nat_le, Bool, true, false, Option, option_map, slice_get, ◌-◌, if◌then◌else◌}
+-- Histories whose entries have callers, and numbers of callers that are out. `by` says who made an entry.
+use Rattle.std.specs.Prelude.{◌≡◌, ℕ, ◌-◌, ◌==◌, nat_le, Bool, true, not, if◌then◌else◌, List, ◌++◌, length, filter, Option, option_map, slice_get}
+use Rattle.std.specs.List.{list_all, list_any}
 
--- the log begins with the front
+-- a history begins with another
 abbrev pub StartsWith : {A : Type 0} → List A → List A → Type 0
-StartsWith {A} log front = (rest : List A) × (log ≡ front ++ rest)
+StartsWith {A} history front = (rest : List A) × (history ≡ front ++ rest)
 
--- the entries of one caller, in order
+-- the entries of one caller, in their order
 abbrev pub entries_by : {E : Type 0} → (E → ℕ) → ℕ → List E → List E
-entries_by by n [] = []
-entries_by by n (x ∷ xs) = if n == by x then x ∷ entries_by by n xs else entries_by by n xs
+entries_by by caller history = filter (λ e. by e == caller) history
 
--- the longer of two lists; of two that are as long, the second
+-- none of these entries is this caller's
+abbrev pub AreOfOthers : {E : Type 0} → (E → ℕ) → ℕ → List E → Type 0
+AreOfOthers by caller entries = list_all (λ e. not (by e == caller)) entries ≡ true
+
+-- whether a number is out
+abbrev pub is_out : ℕ → List ℕ → Bool
+is_out caller out = list_any (λ n. n == caller) out
+
+-- the numbers that are out, but this one
+abbrev pub without : ℕ → List ℕ → List ℕ
+without caller out = filter (λ n. not (n == caller)) out
+
+-- these entries are of callers whose numbers are out
+abbrev pub AreOut : {E : Type 0} → (E → ℕ) → List ℕ → List E → Type 0
+AreOut by out entries = list_all (λ e. is_out (by e) out) entries ≡ true
+
+-- the longer of two histories; of two that are as long, the second
 abbrev pub longer : {A : Type 0} → List A → List A → List A
 longer a b = if nat_le (length a) (length b) then b else a
 
--- the number is among these
-abbrev pub has : ℕ → List ℕ → Bool
-has n [] = false
-has n (x ∷ xs) = if n == x then true else has n xs
-
--- the numbers but this one
-abbrev pub without : ℕ → List ℕ → List ℕ
-without n [] = []
-without n (x ∷ xs) = if n == x then without n xs else x ∷ without n xs
-
--- the caller of the last entry
-abbrev pub last_of : {E : Type 0} → (E → ℕ) → List E → Option ℕ
-last_of by log = option_map by (slice_get log (length log - 1))
+-- who made the last entry
+abbrev pub last_caller_of : {E : Type 0} → (E → ℕ) → List E → Option ℕ
+last_caller_of by history = option_map by (slice_get history (length history - 1))

@@ -1,4 +1,6 @@
 pub mod Histories
-pub mod TicketRule
 pub mod Passes
+pub mod PassSeats
+pub mod TicketRule
+pub mod TicketSteps
 pub mod TurnValue

@@ -1,4 +1,5 @@
-//! A book: a value that keeps a history, shared by passes that take turns.
+//! A book: a lock round a value that keeps a history. Callers have passes to it and take turns at the value; each turn begins
+//! with all that its pass has seen.
 #![tactic(auto)]
 
 mod book;
@@ -9,6 +10,6 @@ mod turn_value;
 mod view;
 
 pub use book::Book;
-pub use kept::Kept;
+pub use kept::{EntryKind, Kept};
 pub use pass::Pass;
 pub use turn::Turn;
