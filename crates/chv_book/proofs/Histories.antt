@@ -4,7 +4,7 @@ use Rattle.std.specs.List.{list_all}
 use Rattle.std.proofs.lemmas.List.{nil_from_length}
 use Rattle.std.proofs.lemmas.List.Elements.{filter-append}
 use Rattle.chv_book.specs.Histories.{entries_by, is_out, longer, without, AreOfOthers, AreOut, StartsWith}
-use Rattle.chv_book.specs.Passes.{Joins}
+use Rattle.chv_book.specs.Passes.{Begins, Joins, PassView}
 
 pub bool_cases : (b : Bool) → (b ≡ true) ⊎ (b ≡ false)
 bool_cases true = inl refl
@@ -186,6 +186,14 @@ module _ {E : Type 0} (by : E → ℕ) where
   -- of a number that was not out there are the entries that the first pass had seen
   pub joined_home : (a : List E) (out : List ℕ) (b : List E) (c : ℕ) (l : List E) (n : ℕ) → Joins by a out b c l → is_out n out ≡ false → entries_by by n l ≡ entries_by by n a
   joined_home a out b c l n j home = ap (entries_by by n) j.goes_on ∙ entries_kept n a j.more (others_home out n j.more home j.of_out)
+
+  -- as a turn begins there are of its caller the entries that its passes made
+  pub begins_own : {O : Type 0} (is_still : List E → Bool) (pass : PassView E O) (history : List E) (side : ℕ × ℕ) → Begins by is_still pass history side → entries_by by pass.caller history ≡ entries_by by pass.caller pass.seen
+  begins_own is_still pass history side b = ap (entries_by by pass.caller) b.seen ∙ entries_kept pass.caller pass.seen b.more b.others
+
+  -- where no number is out, the first pass has seen all that a turn of it begins with
+  pub begins_whole : {O : Type 0} (is_still : List E → Bool) (pass : PassView E O) (history : List E) (side : ℕ × ℕ) → Begins by is_still pass history side → pass.caller ≡ 0 → pass.out ≡ [] → history ≡ pass.seen
+  begins_whole is_still pass history side b first nobody = b.seen ∙ ap (λ (z : List E). pass.seen ++ z) (nothing_new pass.out b.more nobody (b.of_out first)) ∙ append-nil pass.seen
 
 -- ---- numbers that are out
 
