@@ -1,0 +1,8 @@
+pub mod Histories
+mod FewTickets
+mod Words
+mod OneView
+mod TakesTurn
+mod EndsTurn
+mod Seats
+mod TurnsTold
