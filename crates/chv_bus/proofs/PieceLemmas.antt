@@ -8,7 +8,7 @@ use Rattle.std.proofs.lemmas.List.{take_all}
 use Rattle.chv_defs_base.specs.Numbers.{is_width, le_bytes, le_field, le_number}
 use Rattle.chv_defs_api.specs.declared.config.ZoneConfig.{ZoneConfig}
 use Rattle.chv_defs_api.specs.declared.context.CpuNote.{CpuNote}
-use Rattle.chv_defs_api.specs.Registers.{is_port_width}
+use Rattle.chv_defs_api.specs.Registers.{is_port_width, LiesInWindow}
 use Rattle.chv_defs_scene.specs.ScriptReading.{is_instruction, is_port, is_put, is_register}
 use Rattle.chv_defs_scene.specs.declared.scene.Line.{Line}
 use Rattle.chv_defs_scene.specs.declared.scene.Line.TheVariants as line
@@ -19,7 +19,7 @@ use Rattle.chv_defs_guest.proofs.ScriptLemmas.{line_is_instruction}
 use Rattle.chv_defs_guest.specs.declared.want.Want.{Want}
 use Rattle.chv_defs_guest.specs.declared.want.Want.TheVariants as want
 use Rattle.chv_defs_guest.specs.Instruction.{CanBeRun, instruction, is_asking, lowest, register, step_at, step_of}
-use Rattle.chv_defs_guest.specs.Pieces.{CanBeMade, PiecesCanBeMade}
+use Rattle.chv_defs_guest.specs.Pieces.{CanBeMade, has_width, PiecesCanBeMade}
 use Rattle.chv_defs_guest.specs.Routing.{load_route, piece_of, put_route, route_of, store_route, window_route}
 use Rattle.chv_bus.proofs.PlaceLemmas.{IsInLimits, place-in_limits}
 
@@ -54,17 +54,14 @@ abbrev pub IsAsked : Want → Type 0
 IsAsked (want.Load addr width reg) = is_width width ≡ true
 IsAsked (want.Store addr bytes true) = is_put bytes ≡ true
 IsAsked (want.Store addr bytes false) = (is_width (length bytes) ≡ true) × AreBytes bytes
-IsAsked (want.In width port reg) = is_width width ≡ true
-IsAsked (want.Out width port value) = (is_width width ≡ true) × (value < 256 ^ width)
+IsAsked (want.In width port reg) = is_port_width width ≡ true
+IsAsked (want.Out width port value) = (is_port_width width ≡ true) × (value < 256 ^ width)
 IsAsked _ = Unit {0}
 
 stored : (width value : ℕ) → is_width width ≡ true → (is_width (length (le_bytes width value)) ≡ true) × AreBytes (le_bytes width value)
 stored width value h =
     let P : ℕ → Type 0 = λ n. is_width n ≡ true in
     (subst P (sym (le_bytes-length width value)) h, le_bytes-are width value)
-
-port-width : (width : ℕ) → is_port_width width ≡ true → is_width width ≡ true
-port-width width h = grind (arith, nat_tests)
 
 first-of : (a b : Bool) → (a && b) ≡ true → a ≡ true
 first-of true b e = refl
@@ -86,13 +83,22 @@ asked script (line.Math o rd ra rb) cpu good = tt
 asked script (line.Ld width rd ra offset) cpu good = first-of-four (is_width width) (is_register rd) (is_register ra) (nat_lt offset (2 ^ 64)) good
 asked script (line.St width rs ra offset) cpu good = stored width (register cpu rs) (first-of-four (is_width width) (is_register rs) (is_register ra) (nat_lt offset (2 ^ 64)) good)
 asked script (line.Put ra bytes) cpu good = second-of (is_register ra) (is_put bytes) (first-of (is_register ra && is_put bytes) (list_all (λ b. nat_lt b 256) bytes) good)
-asked script (line.In width rd port) cpu good = port-width width (first-of (is_port_width width) (is_register rd) (first-of (is_port_width width && is_register rd) (is_port port) good))
-asked script (line.Out width rs port) cpu good = (port-width width (first-of (is_port_width width) (is_register rs) (first-of (is_port_width width && is_register rs) (is_port port) good)), lowest-below width (register cpu rs))
+asked script (line.In width rd port) cpu good = first-of (is_port_width width) (is_register rd) (first-of (is_port_width width && is_register rd) (is_port port) good)
+asked script (line.Out width rs port) cpu good = (first-of (is_port_width width) (is_register rs) (first-of (is_port_width width && is_register rs) (is_port port) good), lowest-below width (register cpu rs))
 asked script (line.Jmp to) cpu good = tt
 asked script (line.Jz ra to) cpu good = tt
 asked script (line.Jnz ra to) cpu good = tt
 asked script (line.Jlt ra rb to) cpu good = tt
 asked script line.Halt cpu good = tt
+
+-- what is asked for has its width
+asked-width : (w : Want) → IsAsked w → has_width w ≡ true
+asked-width (want.Load addr width reg) good = good
+asked-width (want.Store addr bytes put) good = refl
+asked-width (want.In width port reg) good = good
+asked-width (want.Out width port value) good = refl
+asked-width want.Nothing good = refl
+asked-width want.Halted good = refl
 
 -- ---- what is made of it
 
@@ -103,25 +109,25 @@ some-values (suc width) = omega (arith, some-values width, pow-succ' 256 width)
 ones-fit : (width : ℕ) → 256 ^ width - 1 < 256 ^ width
 ones-fit width = omega (arith, some-values width)
 
-load-made : (addr width reg : ℕ) (at : Place) → is_width width ≡ true → IsInLimits width at → CanBeMade (want.Load addr width reg) (piece_of (want.Load addr width reg) (load_route at addr width))
+load-made : (addr width reg : ℕ) (at : Place) → is_width width ≡ true → IsInLimits addr width at → CanBeMade (want.Load addr width reg) (piece_of (want.Load addr width reg) (load_route at addr width))
 load-made addr width reg (place.Ram zone block offset) good within = search rules
-load-made addr width reg (place.Bar slot offset) good within = good
+load-made addr width reg (place.Bar slot offset) good within = (good, within)
 load-made addr width reg place.Hole good within = ones-fit width
 load-made addr width reg place.Crosses good within = tt
 
-window-made : (addr : ℕ) (bytes : List ℕ) → is_width (length bytes) ≡ true → AreBytes bytes → CanBeMade (want.Store addr bytes false) (piece_of (want.Store addr bytes false) (window_route addr (length bytes) (le_field bytes 0 (length bytes))))
-window-made addr bytes good are =
+window-made : (addr : ℕ) (bytes : List ℕ) → is_width (length bytes) ≡ true → AreBytes bytes → LiesInWindow addr (length bytes) → CanBeMade (want.Store addr bytes false) (piece_of (want.Store addr bytes false) (window_route addr (length bytes) (le_field bytes 0 (length bytes))))
+window-made addr bytes good are within =
     let fits : (is_width (length bytes) && nat_le (0 + length bytes) (length bytes)) ≡ true = grind (arith, nat_tests) in
     let whole : le_field bytes 0 (length bytes) ≡ Some (le_number bytes) = rw fits (ap (λ bs. Some (le_number bs)) (take_all (length bytes) bytes (omega arith))) in
-    rw whole (good, le_number-below bytes are)
+    rw whole (good, le_number-below bytes are, within)
 
-store-made : (addr : ℕ) (bytes : List ℕ) (at : Place) → is_width (length bytes) ≡ true → AreBytes bytes → IsInLimits (length bytes) at → CanBeMade (want.Store addr bytes false) (piece_of (want.Store addr bytes false) (store_route at addr bytes))
+store-made : (addr : ℕ) (bytes : List ℕ) (at : Place) → is_width (length bytes) ≡ true → AreBytes bytes → IsInLimits addr (length bytes) at → CanBeMade (want.Store addr bytes false) (piece_of (want.Store addr bytes false) (store_route at addr bytes))
 store-made addr bytes (place.Ram zone block offset) good are within = let few : length bytes ≤ 8 = grind (arith, nat_tests) in search rules
-store-made addr bytes (place.Bar slot offset) good are within = window-made addr bytes good are
+store-made addr bytes (place.Bar slot offset) good are within = window-made addr bytes good are within
 store-made addr bytes place.Hole good are within = tt
 store-made addr bytes place.Crosses good are within = tt
 
-put-made : (addr : ℕ) (bytes : List ℕ) (at : Place) → is_put bytes ≡ true → IsInLimits (length bytes) at → CanBeMade (want.Store addr bytes true) (piece_of (want.Store addr bytes true) (put_route at))
+put-made : (addr : ℕ) (bytes : List ℕ) (at : Place) → is_put bytes ≡ true → IsInLimits addr (length bytes) at → CanBeMade (want.Store addr bytes true) (piece_of (want.Store addr bytes true) (put_route at))
 put-made addr bytes (place.Ram zone block offset) good within = let few : length bytes ≤ 4096 = grind (arith, nat_tests) in search rules
 put-made addr bytes (place.Bar slot offset) good within = tt
 put-made addr bytes place.Hole good within = tt
@@ -143,4 +149,6 @@ at script cpu run None e = tt
 at script cpu run (Some l) e = asked script l cpu (line_is_instruction script cpu.pos l run.instructions e)
 
 pub pieces_made : PiecesCanBeMade
-pieces_made zones script cpu within run can asks = made zones (step_of script cpu).1 within (at script cpu run (slice_get script cpu.pos) refl) asks
+pieces_made zones script cpu within run can asks =
+    let good = at script cpu run (slice_get script cpu.pos) refl in
+    (asked-width (step_of script cpu).1 good, made zones (step_of script cpu).1 within good asks)

@@ -1,7 +1,8 @@
--- What lies in RAM, by the map of zones within the limits, lies in a block that a zone can have.
-use Rattle.std.proofs.Common.{◌≡◌, ℕ, ◌+◌, ◌-◌, ◌*◌, ◌/◌, ◌%◌, ◌<◌, ◌≤◌, ◌^◌, Bool, true, false, List, [], ◌∷◌, Option, None, Some, length, refl, arith}
+-- What lies in RAM, by the map of zones within the limits, lies in a block that a zone can have; and what lies in a window lies in
+-- that of one of the slots.
+use Rattle.std.proofs.Common.{◌≡◌, ℕ, zero, suc, ◌+◌, ◌-◌, ◌*◌, ◌/◌, ◌%◌, ◌<◌, ◌≤◌, ◌^◌, Bool, true, false, List, [], ◌∷◌, Option, None, Some, length, refl, arith}
 use Rattle.std.specs.Prelude.{◌==◌, ◌||◌, ◌&&◌, nat_le, nat_lt, All}
-use Rattle.std.specs.List.{list_all}
+use Rattle.std.specs.List.{list_all, range_with_len}
 use Rattle.std.proofs.lemmas.Bool.{and_parts}
 use Rattle.std.proofs.lemmas.Bool.Decides.{nat_tests}
 use Rattle.std.proofs.lemmas.List.Elements.{All-cons, All-tail, All-append}
@@ -12,8 +13,8 @@ use Rattle.chv_defs_memory.specs.Zones.{most_zones}
 use Rattle.chv_addr.specs.declared.place.Place.{Place}
 use Rattle.chv_addr.specs.declared.place.Place.TheVariants as place
 use Rattle.chv_addr.specs.declared.run.Run.{Run}
-use Rattle.chv_defs_api.specs.Registers.{window_bytes, window_start}
-use Rattle.chv_addr.specs.AddressMap.{bar_place, bare_place, below_hole, boot_end, boot_runs, holds, is_within_limits, map_of, no_ram, no_window, past_hole, place_by, place_of, plug_runs, ram_place, region_start, run_at, run_bytes, slot_at, with_run}
+use Rattle.chv_defs_api.specs.Registers.{LiesInWindow, window_bytes, window_start}
+use Rattle.chv_addr.specs.AddressMap.{bar_place, bare_place, below_hole, boot_end, boot_runs, holds, is_within_limits, map_of, no_ram, no_window, past_hole, place_by, place_of, plug_runs, ram_place, region_start, run_at, run_bytes, slot_at, slots, with_run}
 use Rattle.chv_addr.proofs.RunSearch.{find-in, find-passes}
 use Rattle.chv_addr.proofs.Zones.{AreSmall, small-zones}
 
@@ -62,15 +63,16 @@ map-of_zone zones within =
     let small : AreSmall zones = small-zones zones within in
     All-append IsOfZone (boot_runs 0 0 zones) (plug_runs 0 (boot_end zones) zones) (boot-of_zone 0 0 zones few small) (plug-of_zone 0 (boot_end zones) zones few small)
 
--- in RAM, so many bytes at least one lie whole in a block that a zone can have
-abbrev pub IsInLimits : ℕ → Place → Type 0
-IsInLimits len (place.Ram zone block offset) = (zone < most_zones) × (block < most_blocks) × (1 ≤ len) × (offset + len ≤ block_bytes)
-IsInLimits len _ = Unit {0}
+-- in RAM, so many bytes at least one lie whole in a block that a zone can have; in a window, all of them from the address on
+abbrev pub IsInLimits : ℕ → ℕ → Place → Type 0
+IsInLimits addr len (place.Ram zone block offset) = (zone < most_zones) × (block < most_blocks) × (1 ≤ len) × (offset + len ≤ block_bytes)
+IsInLimits addr len (place.Bar slot offset) = LiesInWindow addr len
+IsInLimits addr len _ = Unit {0}
 
-ram-in_limits : (run : Run) (addr len : ℕ) → 1 ≤ len → IsOfZone run → holds run.addr (run_bytes run) addr ≡ true → IsInLimits len (ram_place run addr len)
+ram-in_limits : (run : Run) (addr len : ℕ) → 1 ≤ len → IsOfZone run → holds run.addr (run_bytes run) addr ≡ true → IsInLimits addr len (ram_place run addr len)
 ram-in_limits run addr len some known held = by (nat_le ((addr - run.addr) % block_bytes + len) block_bytes) refl
   where
-    by : (b : Bool) → nat_le ((addr - run.addr) % block_bytes + len) block_bytes ≡ b → IsInLimits len (ram_place run addr len)
+    by : (b : Bool) → nat_le ((addr - run.addr) % block_bytes + len) block_bytes ≡ b → IsInLimits addr len (ram_place run addr len)
     by false e = rw e tt
     by true e =
         let inside : addr < run.addr + run_bytes run = grind (arith, nat_tests) in
@@ -79,32 +81,49 @@ ram-in_limits run addr len some known held = by (nat_le ((addr - run.addr) % blo
         let block : run.first + (addr - run.addr) / block_bytes < most_blocks = omega (arith, known.1) in
         rw e (known.0, block, some, fits)
 
-bar-in_limits : (slot addr len : ℕ) → IsInLimits len (bar_place slot addr len)
-bar-in_limits slot addr len = by (nat_le (addr - window_start slot + len) window_bytes) refl
-  where
-    by : (b : Bool) → nat_le (addr - window_start slot + len) window_bytes ≡ b → IsInLimits len (bar_place slot addr len)
-    by false e = rw e tt
-    by true e = rw e tt
+-- a slot from 1 to 31
+abbrev IsSlot : ℕ → Type 0
+IsSlot slot = (1 ≤ slot) × (slot ≤ 31)
 
-bare-in_limits : (runs : List Run) (addr len : ℕ) → IsInLimits len (bare_place runs addr len)
+are-slots : (k n : ℕ) → 1 ≤ k → k + n ≤ 32 → All IsSlot (range_with_len k n)
+are-slots k zero least most = λ i d h. absurd (omega arith)
+are-slots k (suc n) least most = All-cons IsSlot k (range_with_len (k + 1) n) (least, omega arith) (are-slots (k + 1) n (omega arith) (omega arith))
+
+all-slots : All IsSlot slots
+unfolding slots
+all-slots = are-slots 1 31 (omega arith) (omega arith)
+
+bar-in_limits : (slot addr len : ℕ) → IsSlot slot → holds (window_start slot) window_bytes addr ≡ true → IsInLimits addr len (bar_place slot addr len)
+bar-in_limits slot addr len known held = by (nat_le (addr - window_start slot + len) window_bytes) refl
+  where
+    by : (b : Bool) → nat_le (addr - window_start slot + len) window_bytes ≡ b → IsInLimits addr len (bar_place slot addr len)
+    by false e = rw e tt
+    by true e =
+        let least : window_start slot ≤ addr = grind (arith, nat_tests) in
+        let fits : addr - window_start slot + len ≤ window_bytes = grind (arith, nat_tests) in
+        let to : addr + len ≤ window_start slot + window_bytes = omega arith in
+        rw e (record { slot = slot; least = known.0; most = known.1; from = least; to = to })
+
+bare-in_limits : (runs : List Run) (addr len : ℕ) → IsInLimits addr len (bare_place runs addr len)
 bare-in_limits runs addr len = by (no_ram runs addr (addr + len) && no_window addr (addr + len)) refl
   where
-    by : (b : Bool) → (no_ram runs addr (addr + len) && no_window addr (addr + len)) ≡ b → IsInLimits len (bare_place runs addr len)
+    by : (b : Bool) → (no_ram runs addr (addr + len) && no_window addr (addr + len)) ≡ b → IsInLimits addr len (bare_place runs addr len)
     by false e = rw e tt
     by true e = rw e tt
 
-by-in_limits : (runs : List Run) (addr len : ℕ) → 1 ≤ len → All IsOfZone runs → (run : Option Run) → run_at runs addr ≡ run → (slot : Option ℕ) → IsInLimits len (place_by run slot runs addr len)
-by-in_limits runs addr len some known (Some run) e slot =
+by-in_limits : (runs : List Run) (addr len : ℕ) → 1 ≤ len → All IsOfZone runs → (run : Option Run) → run_at runs addr ≡ run → (slot : Option ℕ) → slot_at addr ≡ slot → IsInLimits addr len (place_by run slot runs addr len)
+by-in_limits runs addr len some known (Some run) e slot f =
     ram-in_limits run addr len some (find-in IsOfZone (λ run. holds run.addr (run_bytes run) addr) runs run known e) (find-passes (λ run. holds run.addr (run_bytes run) addr) runs run e)
-by-in_limits runs addr len some known None e (Some slot) = bar-in_limits slot addr len
-by-in_limits runs addr len some known None e None = bare-in_limits runs addr len
+by-in_limits runs addr len some known None e (Some slot) f =
+    bar-in_limits slot addr len (find-in IsSlot (λ slot. holds (window_start slot) window_bytes addr) slots slot all-slots f) (find-passes (λ slot. holds (window_start slot) window_bytes addr) slots slot f)
+by-in_limits runs addr len some known None e None f = bare-in_limits runs addr len
 
 -- the place of bytes by the map of zones
-pub place-in_limits : (zones : List ZoneConfig) (addr len : ℕ) → is_within_limits zones ≡ true → IsInLimits len (place_of (map_of zones) addr len)
+pub place-in_limits : (zones : List ZoneConfig) (addr len : ℕ) → is_within_limits zones ≡ true → IsInLimits addr len (place_of (map_of zones) addr len)
 place-in_limits zones addr len within = by (len == 0 || nat_lt (2 ^ 64) (addr + len)) refl
   where
-    by : (b : Bool) → (len == 0 || nat_lt (2 ^ 64) (addr + len)) ≡ b → IsInLimits len (place_of (map_of zones) addr len)
+    by : (b : Bool) → (len == 0 || nat_lt (2 ^ 64) (addr + len)) ≡ b → IsInLimits addr len (place_of (map_of zones) addr len)
     by true e = rw e tt
     by false e =
         let some : 1 ≤ len = grind (arith, nat_tests) in
-        rw e (by-in_limits (map_of zones).runs addr len some (map-of_zone zones within) (run_at (map_of zones).runs addr) refl (slot_at addr))
+        rw e (by-in_limits (map_of zones).runs addr len some (map-of_zone zones within) (run_at (map_of zones).runs addr) refl (slot_at addr) refl)

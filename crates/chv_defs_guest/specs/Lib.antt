@@ -2,3 +2,9 @@ pub mod Instruction
 pub mod Runs
 pub mod Routing
 pub mod Pieces
+pub mod Course
+pub mod Replies
+pub mod Moments
+pub mod Worlds
+pub mod VcpuCourse
+pub mod Slices
