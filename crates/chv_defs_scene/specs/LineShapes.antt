@@ -10,7 +10,8 @@ use Rattle.chv_defs_base.specs.Numbers.{dec_text, hex_text, pairs, is_width}
 use Rattle.chv_defs_base.specs.declared.rule.Reason.{Reason}
 use Rattle.chv_defs_base.specs.declared.rule.Reason.TheVariants.{UnknownWord, FieldCount, BadRegister, BadWidth, BadNumber, BadHex, BadName}
 use Rattle.chv_defs_scene.specs.ScenarioLines.{is_route_name}
-use Rattle.chv_defs_scene.specs.ScriptReading.{is_port_width, is_put}
+use Rattle.chv_defs_api.specs.Registers.{is_port_width}
+use Rattle.chv_defs_scene.specs.ScriptReading.{is_put}
 use Rattle.chv_defs_scene.specs.ScriptText.{register}
 
 -- ---- fields

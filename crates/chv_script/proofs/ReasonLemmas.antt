@@ -11,7 +11,8 @@ use Rattle.chv_defs_scene.specs.declared.scene.Line.TheVariants as line
 use Rattle.chv_defs_scene.specs.declared.scene.MathOp.{MathOp}
 use Rattle.chv_defs_scene.specs.declared.scene.MathOp.TheVariants as op
 use Rattle.chv_defs_scene.specs.LineShapes.{Kind, Register, MemoryWidth, PortWidth, Value, Port, Stored, Label, IsOfKind, bad, AreOfKinds, FirstIsBad, kinds_of, FieldsFit, FieldsFail, instruction_shapes}
-use Rattle.chv_defs_scene.specs.ScriptReading.{◌>>=◌, fields_of, kept, is_register, is_port_width, is_port, is_put, register_of, memory_width_of, port_width_of, value_of, port_of, put_bytes_of, name_of, one, two, three, four, with_none, with_one, with_two, with_three, with_four, instruction_of, by_fields, line_of, labels_of, has_label, target, own_label, is_there, is_missing, label_fault, unless, line_between, is_instruction}
+use Rattle.chv_defs_api.specs.Registers.{is_port_width}
+use Rattle.chv_defs_scene.specs.ScriptReading.{◌>>=◌, fields_of, kept, is_register, is_port, is_put, register_of, memory_width_of, port_width_of, value_of, port_of, put_bytes_of, name_of, one, two, three, four, with_none, with_one, with_two, with_three, with_four, instruction_of, by_fields, line_of, labels_of, has_label, target, own_label, is_there, is_missing, label_fault, unless, line_between, is_instruction}
 use Rattle.chv_defs_scene.specs.ScriptText.{line_text}
 use Rattle.chv_script.specs.Reasons.{LooksLike, LooksWrong, InstructionFails, NamesFirstReason}
 use Rattle.chv_script.proofs.FieldLemmas.{not_is}
