@@ -1,6 +1,6 @@
--- What calls on the banks of all zones come to while no context is lent: then nothing is seen in between, and the owner knows
--- all that there is.
-use Rattle.std.proofs.Common.{◌≡◌, ℕ, zero, suc, ◌+◌, ◌-◌, ◌<◌, Bool, true, false, List, [], ◌∷◌, ◌++◌, Option, None, Some, Result, refl, ◌∙◌, ap, arith}
+-- What calls on the banks of all zones come to while no context acts: then nothing is seen in between, and the owner knows all
+-- that there is.
+use Rattle.std.proofs.Common.{◌≡◌, ℕ, zero, suc, ◌+◌, ◌-◌, ◌<◌, Bool, true, false, List, [], ◌∷◌, ◌++◌, Option, None, Some, Result, refl, sym, ◌∙◌, ap, arith}
 use Rattle.std.specs.Prelude.{◌&&◌, map, min}
 use Rattle.std.specs.List.{range_with_len}
 use Rattle.std.proofs.lemmas.List.{append-nil}
@@ -11,9 +11,10 @@ use Rattle.chv_defs_memory.specs.declared.bank.BankEntry.{BankEntry}
 use Rattle.chv_defs_memory.specs.declared.bank.Refusal.{Refusal}
 use Rattle.chv_defs_memory.specs.BankState.{banks, is_frozen, later, latest, says_frozen}
 use Rattle.chv_defs_memory.specs.BankBook.{owner_reply, pages_used, refused_or, room_refusal, with_entry}
-use Rattle.chv_defs_memory.specs.Zones.{book_of, first_due, is_of, with_room, zone_refusal, AreOf, Enters, GivesBack, GoesOn, Known, MakesRoom, OnlySeesMore}
+use Rattle.chv_defs_memory.specs.Lending.{is_in}
+use Rattle.chv_defs_memory.specs.Zones.{acting, book_of, first_due, is_of, with_room, zone_refusal, AreOf, Enters, GivesBack, GoesOn, Known, MakesRoom, OnlySeesMore}
 
--- ---- while no context is lent
+-- ---- while no context acts
 
 and-false : (a : Bool) → (a && false) ≡ false
 and-false true = refl
@@ -26,7 +27,7 @@ and-first false b e = e
 is_of-none : (e : BankEntry) → is_of [] e ≡ false
 is_of-none e = and-false _
 
--- no entry is one of a context that is lent
+-- no entry is one of theirs
 pub others-none : (others : List BankEntry) → AreOf [] others → others ≡ []
 others-none [] h = refl
 others-none (e ∷ es) h = let first : is_of [] e ≡ true = and-first (is_of [] e) _ h in let not_so : is_of [] e ≡ false = is_of-none e in cc
@@ -34,6 +35,25 @@ others-none (e ∷ es) h = let first : is_of [] e ≡ true = and-first (is_of []
 -- no history goes on by itself
 pub goes-on-none : (before after : List BankEntry) → GoesOn [] before after → after ≡ before
 goes-on-none before after h = h.2 ∙ ap (λ others. before ++ others) (others-none h.0 h.1) ∙ append-nil before
+
+-- ---- who acts meanwhile
+
+-- with nobody lent nobody acts
+pub nobody-acts : (shared : Bool) (lent : List ℕ) → lent ≡ [] → acting shared lent ≡ []
+nobody-acts true lent home = home
+nobody-acts false lent home = refl
+
+-- whatever is shared, who acts is lent
+pub acting-lent : (shared : Bool) (lent : List ℕ) (caller : ℕ) → is_in caller (acting shared lent) ≡ true → is_in caller lent ≡ true
+acting-lent true lent caller acts = acts
+acting-lent false lent caller acts = cc
+
+-- and so are those whose accesses a history goes on by
+pub acting-goes-on : (shared : Bool) (lent : List ℕ) (before after : List BankEntry) → GoesOn (acting shared lent) before after → GoesOn lent before after
+acting-goes-on true lent before after goes = goes
+acting-goes-on false lent before after goes = ([], refl, goes-on-none before after goes ∙ sym (append-nil before))
+
+-- ---- the owner's calls while no context acts
 
 -- the owner sees nothing new
 pub sees-none : (before after : Known) → OnlySeesMore [] before after → after ≡ before
@@ -56,7 +76,7 @@ entered_by bank c known = record known {
 -- the entry is made behind what the owner knows, and answered by it
 pub enters-none : (bank : ℕ) (before after : Known) (c : BankCall) (r : BankReply) → Enters [] bank before after c r → (r ≡ owner_reply bank before.history c) × (after ≡ entered_by bank c before)
 enters-none bank before after c r h =
-    let seen : before.history ++ h.others ≡ before.history = ap (λ others. before.history ++ others) (others-none h.others h.of_lent) ∙ append-nil before.history in
+    let seen : before.history ++ h.others ≡ before.history = ap (λ others. before.history ++ others) (others-none h.others h.of_contexts) ∙ append-nil before.history in
     let replied : r ≡ owner_reply bank before.history c = h.replied ∙ ap (λ history. owner_reply bank history c) seen in
     let made : List BankEntry → BankReply → Known = λ history reply. record before {
       history = with_entry history 0 c reply;

@@ -21,13 +21,13 @@ abbrev pub with_calls : ℕ → List BankEntry → List BankCall → List BankEn
 with_calls bank before [] = before
 with_calls bank before (c ∷ calls) = with_calls bank (with_entry before 0 c (owner_reply bank before c)) calls
 
--- These calls of the owner were made one after another and no others, each answered by the history up to it. Contexts that are
--- lent may have made accesses before, between and behind them.
+-- These calls of the owner were made one after another and no others, each answered by the history up to it. These contexts may
+-- have made accesses before, between and behind them.
 abbrev pub AreMade : List ℕ → ℕ → List BankEntry → List BankCall → List BankEntry → Type 0
-AreMade lent bank before [] after = GoesOn lent before after
-AreMade lent bank before (c ∷ calls) after =
-    (others : List BankEntry) × AreOf lent others
-    × AreMade lent bank (with_entry (before ++ others) 0 c (owner_reply bank (before ++ others) c)) calls after
+AreMade contexts bank before [] after = GoesOn contexts before after
+AreMade contexts bank before (c ∷ calls) after =
+    (others : List BankEntry) × AreOf contexts others
+    × AreMade contexts bank (with_entry (before ++ others) 0 c (owner_reply bank (before ++ others) c)) calls after
 
 -- ---- between control calls
 

@@ -1,6 +1,7 @@
 -- What the banks of all zones mean to their owner: the history of each bank as far as the owner knows it, what is reserved
--- there, and which contexts are lent. Contexts that are lent read, write and pin between the owner's calls, so that a call may
--- find entries that the owner has not seen before. While none is lent, what the owner knows is all that there is.
+-- there, and which contexts are lent. Contexts that are lent read, write and pin. Where the banks stand behind locks they do so
+-- while the owner makes its calls, so that a call may find entries that the owner has not seen before; where the owner holds the
+-- banks by value, and while no context is lent, what the owner knows is all that there is.
 use Rattle.std.specs.Prelude.{◌≡◌, ◌<◌, ℕ, ◌+◌, ◌-◌, ◌==◌, ◌&&◌, Bool, true, false, nat_lt, not, min, List, [], ◌∷◌, ◌++◌, map, Option, None, Some, Result, Ok, Err}
 use Rattle.std.specs.List.{list_all, list_any, range_with_len}
 use Rattle.chv_defs_memory.specs.declared.bank.BankCall.{BankCall}
@@ -33,21 +34,27 @@ book_of zone bank known = record { zone = zone; bank = bank; history = known.his
 
 -- ---- what contexts do meanwhile
 
+-- The contexts that may make accesses while the owner makes a call: those that are lent where the banks are shared with them,
+-- and else none.
+abbrev pub acting : Bool → List ℕ → List ℕ
+acting true lent = lent
+acting false lent = []
+
 -- whether an entry is an access (a Read, Write, Pin or Unpin) of one of these contexts
 abbrev pub is_of : List ℕ → BankEntry → Bool
-is_of lent e = nat_lt 0 e.caller && not (is_owner_call e.call) && list_any (λ caller. caller == e.caller) lent
+is_of contexts e = nat_lt 0 e.caller && not (is_owner_call e.call) && list_any (λ caller. caller == e.caller) contexts
 
--- these entries are accesses of contexts that are lent
+-- these entries are accesses of these contexts
 abbrev pub AreOf : List ℕ → List BankEntry → Type 0
-AreOf lent entries = list_all (is_of lent) entries ≡ true
+AreOf contexts entries = list_all (is_of contexts) entries ≡ true
 
--- A history goes on by accesses of contexts that are lent, and by nothing else.
+-- A history goes on by accesses of these contexts, and by nothing else.
 abbrev pub GoesOn : List ℕ → List BankEntry → List BankEntry → Type 0
-GoesOn lent before after = (others : List BankEntry) × AreOf lent others × (after ≡ before ++ others)
+GoesOn contexts before after = (others : List BankEntry) × AreOf contexts others × (after ≡ before ++ others)
 
 -- The owner may know more of a bank's history than before, and nothing else is changed.
 abbrev pub OnlySeesMore : List ℕ → Known → Known → Type 0
-OnlySeesMore lent before after = GoesOn lent before.history after.history × (after ≡ record before { history = after.history })
+OnlySeesMore contexts before after = GoesOn contexts before.history after.history × (after ≡ record before { history = after.history })
 
 -- the banks of the other zones are as before
 abbrev pub OtherZonesStay : (ℕ → ℕ → Known) → (ℕ → ℕ → Known) → ℕ → Type 0
@@ -78,17 +85,17 @@ with_room known entries pages (Err why) = known
 
 -- Room in a zone: each bank is asked at a moment of the call (one behind a bank that refuses need not be). The answer is the
 -- first refusal that is due by these moments, if one is. Room is made in every bank, or after a refusal in none.
-pub record MakesRoom {A : Type 0} (lent : List ℕ) (before after : ℕ → Known) (zone entries pages : ℕ) (done : A) (answer : Result A Refusal) : Type 0 where
+pub record MakesRoom {A : Type 0} (contexts : List ℕ) (before after : ℕ → Known) (zone entries pages : ℕ) (done : A) (answer : Result A Refusal) : Type 0 where
   pub at : ℕ → List BankEntry
-  pub seen : (bank : ℕ) → bank < banks → GoesOn lent (before bank).history (at bank)
-  pub later : (bank : ℕ) → bank < banks → GoesOn lent (at bank) (after bank).history
+  pub seen : (bank : ℕ) → bank < banks → GoesOn contexts (before bank).history (at bank)
+  pub later : (bank : ℕ) → bank < banks → GoesOn contexts (at bank) (after bank).history
   pub answered : answer ≡ refused_or (zone_refusal zone (λ bank. record (before bank) { history = at bank }) entries pages) done
   pub reserved : (bank : ℕ) → bank < banks → after bank ≡ with_room (record (before bank) { history = (after bank).history }) entries pages answer
 
 -- What is left of reserved places: at most so many entries, and no page.
 abbrev pub GivesBack : List ℕ → ℕ → Known → Known → Type 0
-GivesBack lent keep before after =
-    GoesOn lent before.history after.history
+GivesBack contexts keep before after =
+    GoesOn contexts before.history after.history
     × (after ≡ record before { history = after.history; entries = min before.entries keep; pages = 0 })
 
 -- ---- the owner's calls
@@ -103,9 +110,9 @@ OwnerMayAsk lent bank seen c = OwnerMay bank seen c
 
 -- An owner's call appends its one entry behind those that are there by then, is answered by the bank's history up to it, and
 -- uses one reserved entry, and a Fill a reserved page.
-pub record Enters (lent : List ℕ) (bank : ℕ) (before after : Known) (c : BankCall) (r : BankReply) : Type 0 where
+pub record Enters (contexts : List ℕ) (bank : ℕ) (before after : Known) (c : BankCall) (r : BankReply) : Type 0 where
   pub others : List BankEntry
-  pub of_lent : AreOf lent others
+  pub of_contexts : AreOf contexts others
   pub replied : r ≡ owner_reply bank (before.history ++ others) c
   pub entered : after ≡ record before {
     history = with_entry (before.history ++ others) 0 c r;

@@ -5,7 +5,7 @@ ghost use Rattle.chv_defs_memory.specs.declared.bank.BankCall.{BankCall};
 ghost use Rattle.chv_defs_memory.specs.BankBook.{is_unpin, refusal_of, refused_or, HasItsNumber};
 ghost use Rattle.chv_defs_memory.specs.LegalBank.{access_reply, IsLegal};
 ghost use Rattle.chv_defs_memory.specs.BankState.{is_frozen, is_owner_call, IsCall};
-ghost use Rattle.chv_defs_memory.specs.Zones.{book_of, IsBank, OnlySeesMore, OtherBanksStay};
+ghost use Rattle.chv_defs_memory.specs.Zones.{acting, book_of, IsBank, OnlySeesMore, OtherBanksStay};
 ghost use Rattle.chv_defs_memory.specs.Lending.{is_in, left_by, most_contexts, told_or, Access, Accesses, GoesOnFor, HasNoPinBy, OneLess, OneMore};
 
 use crate::{BankCall, BankReply, Banked, Refusal, Zones};
@@ -66,7 +66,7 @@ pub trait Lends<P: Told>: Banked {
         requires unpinned { (zone bank : ℕ) → IsBank zone bank → HasNoPinBy caller (told_or (P.seen passes.old zone bank) (Self.known self.old zone bank).history) }
         ensures lent { OneLess caller (Self.lent self.old) (Self.lent self.new) }
         ensures empty { P.are_empty passes.new }
-        ensures known { (zone bank : ℕ) → IsBank zone bank → OnlySeesMore (Self.lent self.old) (Self.known self.old zone bank) (Self.known self.new zone bank) }
+        ensures known { (zone bank : ℕ) → IsBank zone bank → OnlySeesMore (acting Self.is_shared (Self.lent self.old)) (Self.known self.old zone bank) (Self.known self.new zone bank) }
         // The owner knows then all that the passes had seen, and no further entry of their caller.
         ensures told { (zone bank : ℕ) → IsBank zone bank → IfSome (P.seen passes.old zone bank) (λ seen. GoesOnFor caller seen (Self.known self.new zone bank).history) }
         // What is known of each bank then is a legal history.
@@ -139,4 +139,7 @@ pub trait Lent: Zones<()> {
         ensures others { OtherBanksStay (Self.known self.old) (Self.known self.new) zone bank }
         ensures lent { Self.lent self.new ≡ Self.lent self.old }
         ensures books { Self.books self.new ≡ Self.books self.old };
+
+    /// No context makes an access while the owner makes a call.
+    ghost by_value: { Self.is_shared ≡ false };
 }

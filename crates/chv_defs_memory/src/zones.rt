@@ -1,9 +1,9 @@
 // The banks of all zones, as their owner reaches them.
-ghost use Rattle.std.specs.Prelude.{◌≡◌, ◌<◌, ◌≤◌, ℕ, List, true, IfOk, OnErr};
+ghost use Rattle.std.specs.Prelude.{◌≡◌, ◌<◌, ◌≤◌, ℕ, Bool, List, true, IfOk, OnErr};
 ghost use Rattle.chv_defs_memory.specs.BankState.{banks, is_owner_call, IsCall};
 ghost use Rattle.chv_defs_memory.specs.BankBook.{pages_shown, pages_used};
 ghost use Rattle.chv_defs_memory.specs.LegalBank.{IsLegal};
-ghost use Rattle.chv_defs_memory.specs.Zones.{most_zones, Enters, GivesBack, IsBank, Known, MakesRoom, OnlySeesMore, OtherBanksStay, OtherZonesStay, OwnerMayAsk};
+ghost use Rattle.chv_defs_memory.specs.Zones.{acting, most_zones, Enters, GivesBack, IsBank, Known, MakesRoom, OnlySeesMore, OtherBanksStay, OtherZonesStay, OwnerMayAsk};
 
 use crate::{BankCall, BankReply, PageAt, Refusal};
 use chv_defs_base::Row;
@@ -20,6 +20,10 @@ pub trait Banked {
 
     /// The callers of the contexts that are lent. While there is none, what the owner knows of a bank is all of it.
     ghost lent: { Self → List ℕ };
+
+    /// Whether contexts that are lent make accesses while the owner makes its calls: they do where the banks stand behind locks,
+    /// and do not where the owner holds the banks by value.
+    ghost is_shared: { Bool };
 
     /// Behind which locks the banks stand, each told by some numbers, zones and then banks ascending; none where there is no
     /// lock. No call changes it.
@@ -40,8 +44,8 @@ pub trait Zones<R>: Banked {
     ) -> Result<Result<(), Refusal>, AllocError>
         requires zone { zone < most_zones }
         requires unreserved { (bank : ℕ) → bank < banks → (Self.known self.old zone bank).pages ≡ 0 }
-        ensures room { IfOk result (λ answer. MakesRoom (Self.lent self.old) (Self.known self.old zone) (Self.known self.new zone) zone entries pages tt answer) }
-        ensures err { OnErr result ((bank : ℕ) → bank < banks → OnlySeesMore (Self.lent self.old) (Self.known self.old zone bank) (Self.known self.new zone bank)) }
+        ensures room { IfOk result (λ answer. MakesRoom (acting Self.is_shared (Self.lent self.old)) (Self.known self.old zone) (Self.known self.new zone) zone entries pages tt answer) }
+        ensures err { OnErr result ((bank : ℕ) → bank < banks → OnlySeesMore (acting Self.is_shared (Self.lent self.old)) (Self.known self.old zone bank) (Self.known self.new zone bank)) }
         // What is known of each bank of the zone then is a legal history, whatever is answered.
         ensures legal { (bank : ℕ) → bank < banks → IsLegal bank (Self.known self.new zone bank).history }
         ensures others { OtherZonesStay (Self.known self.old) (Self.known self.new) zone }
@@ -51,7 +55,7 @@ pub trait Zones<R>: Banked {
     /// Gives reserved entries back in each bank of a zone, until `keep` are left there, and every reserved page.
     fn give_back(&mut self, rt: R, zone: u8, keep: u32)
         requires zone { zone < most_zones }
-        ensures left { (bank : ℕ) → bank < banks → GivesBack (Self.lent self.old) keep (Self.known self.old zone bank) (Self.known self.new zone bank) }
+        ensures left { (bank : ℕ) → bank < banks → GivesBack (acting Self.is_shared (Self.lent self.old)) keep (Self.known self.old zone bank) (Self.known self.new zone bank) }
         // What is known of each bank of the zone then is a legal history.
         ensures legal { (bank : ℕ) → bank < banks → IsLegal bank (Self.known self.new zone bank).history }
         ensures others { OtherZonesStay (Self.known self.old) (Self.known self.new) zone }
@@ -67,7 +71,7 @@ pub trait Zones<R>: Banked {
         requires condition { OwnerMayAsk (Self.lent self.old) bank (Self.known self.old zone bank).history call.now }
         requires entry { 0 < (Self.known self.old zone bank).entries }
         requires page { pages_used call.now ≤ (Self.known self.old zone bank).pages }
-        ensures entered { Enters (Self.lent self.old) bank (Self.known self.old zone bank) (Self.known self.new zone bank) call.now result }
+        ensures entered { Enters (acting Self.is_shared (Self.lent self.old)) bank (Self.known self.old zone bank) (Self.known self.new zone bank) call.now result }
         // What is known of the bank then, with this entry as its last, is a legal history.
         ensures legal { IsLegal bank (Self.known self.new zone bank).history }
         ensures others { OtherBanksStay (Self.known self.old) (Self.known self.new) zone bank }
@@ -78,7 +82,7 @@ pub trait Zones<R>: Banked {
     fn pages(&mut self, rt: R, zone: u8, bank: u8) -> Result<Row<PageAt>, AllocError>
         requires zone { IsBank zone bank }
         ensures pages { IfOk result (λ pages. pages ≡ pages_shown bank (Self.known self.new zone bank).history) }
-        ensures seen { OnlySeesMore (Self.lent self.old) (Self.known self.old zone bank) (Self.known self.new zone bank) }
+        ensures seen { OnlySeesMore (acting Self.is_shared (Self.lent self.old)) (Self.known self.old zone bank) (Self.known self.new zone bank) }
         // What is known of the bank then is a legal history, whatever is answered.
         ensures legal { IsLegal bank (Self.known self.new zone bank).history }
         ensures others { OtherBanksStay (Self.known self.old) (Self.known self.new) zone bank }

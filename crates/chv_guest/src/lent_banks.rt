@@ -1,5 +1,5 @@
 // The banks of all zones on one thread.
-ghost use Rattle.std.specs.Prelude.{◌≡◌, ◌<◌, [], false, IfOk, IsOk, true};
+ghost use Rattle.std.specs.Prelude.{◌≡◌, ◌<◌, [], false, refl, IfOk, IsOk, true};
 ghost use Rattle.chv_defs_memory.specs.BankBook.{is_unpin, refusal_of, refused_or, HasItsNumber};
 ghost use Rattle.chv_defs_memory.specs.BankState.{is_owner_call, IsCall};
 ghost use Rattle.chv_defs_memory.specs.LegalBank.{access_reply, IsLegal};
@@ -91,6 +91,8 @@ impl Banked for LentBanks {
 
     ghost lent = { λ zones. zones.lent };
 
+    ghost is_shared = { false };
+
     ghost books = { λ _. [] };
 }
 
@@ -138,6 +140,8 @@ impl Lent for LentBanks {
     ) -> Result<Result<BankReply, Refusal>, AllocError> {
         access_at(&mut self.banks[place_of(zone, bank)], caller, call)
     }
+
+    ghost by_value = { refl };
 }
 
 // Makes an access in a bank, whose history is legal then, whatever is answered.

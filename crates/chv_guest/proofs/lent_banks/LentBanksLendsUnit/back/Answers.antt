@@ -1,4 +1,4 @@
-use Rattle.std.proofs.Common.{◌≡◌, ℕ, true, refl, sym, subst}
+use Rattle.std.proofs.Common.{◌≡◌, ℕ, true, [], refl, sym, subst}
 use Rattle.chv_defs_memory.specs.Lending.{is_in, HasNoPinBy}
 use Rattle.chv_defs_memory.specs.Zones.{IsBank, OnlySeesMore}
 use Rattle.chv_guest.specs.LentBanks.{known_at, Lent}
@@ -18,8 +18,8 @@ invariant_of-self c =
 
 pub returns-clause-known : goal.returns-clause-known
 returns-clause-known c = λ zone bank is.
-    subst (λ (zones : Lent). OnlySeesMore zones.lent (known_at zones.books zone bank) (known_at c.self.inside.banks.items zone bank)) c.self.view_is
-    (stays c.self.inside.lent (known_at c.self.inside.banks.items zone bank).history (known_at c.self.inside.banks.items zone bank).history refl, refl)
+    subst (λ (zones : Lent). OnlySeesMore [] (known_at zones.books zone bank) (known_at c.self.inside.banks.items zone bank)) c.self.view_is
+    (stays [] (known_at c.self.inside.banks.items zone bank).history (known_at c.self.inside.banks.items zone bank).history refl, refl)
 
 pub returns-clause-legal : goal.returns-clause-legal
 returns-clause-legal c = λ zone bank is. legal-known c.self.inside.banks.items zone bank c.self.invariant.0 is.0 is.1

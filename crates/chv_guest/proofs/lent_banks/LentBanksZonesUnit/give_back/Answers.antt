@@ -1,4 +1,4 @@
-use Rattle.std.proofs.Common.{◌<◌, ℕ, List, sym, subst}
+use Rattle.std.proofs.Common.{◌<◌, ℕ, List, [], sym, subst}
 use Rattle.chv_defs_memory.specs.BankState.{banks}
 use Rattle.chv_defs_memory.specs.BankBook.{BankBook}
 use Rattle.chv_defs_memory.specs.LegalBank.{IsLegal}
@@ -20,9 +20,9 @@ invariant_of-self c =
 pub returns-clause-left : goal.returns-clause-left
 returns-clause-left c =
     let old : List BankBook = c.self.inside.banks.items in
-    subst (λ (zones : Lent). (bank : ℕ) → bank < banks → GivesBack zones.lent c.args.keep (known_at zones.books c.args.zone bank) (known_at c.keep_room.new.all.items c.args.zone bank)) c.self.view_is
-    (subst (λ (after : List BankBook). (bank : ℕ) → bank < banks → GivesBack c.self.inside.lent c.args.keep (known_at old c.args.zone bank) (known_at after c.args.zone bank)) (sym c.keep_room.ensures)
-    (λ bank inside. gives_back c.self.inside.lent old c.args.zone bank c.args.keep c.self.invariant.0 c.requires.zone inside))
+    subst (λ (zones : Lent). (bank : ℕ) → bank < banks → GivesBack [] c.args.keep (known_at zones.books c.args.zone bank) (known_at c.keep_room.new.all.items c.args.zone bank)) c.self.view_is
+    (subst (λ (after : List BankBook). (bank : ℕ) → bank < banks → GivesBack [] c.args.keep (known_at old c.args.zone bank) (known_at after c.args.zone bank)) (sym c.keep_room.ensures)
+    (λ bank inside. gives_back [] old c.args.zone bank c.args.keep c.self.invariant.0 c.requires.zone inside))
 
 pub returns-clause-others : goal.returns-clause-others
 returns-clause-others c =

@@ -1,4 +1,4 @@
-use Rattle.std.proofs.Common.{ℕ, ◌<◌, List, IfOk, sym, subst}
+use Rattle.std.proofs.Common.{ℕ, ◌<◌, List, [], IfOk, sym, subst}
 use Rattle.std.specs.Prelude.{if◌then◌else◌}
 use Rattle.chv_defs_memory.specs.BankState.{banks}
 use Rattle.chv_defs_memory.specs.LegalBank.{IsLegal}
@@ -21,9 +21,9 @@ invariant_of-self c =
 pub returns-clause-room : goal.returns-clause-room
 returns-clause-room c =
     let old : List BankBook = c.self.inside.banks.items in
-    subst (λ (zones : Lent). IfOk c.make_room.result (λ answer. MakesRoom zones.lent (known_at zones.books c.args.zone) (known_at c.make_room.new.all.items c.args.zone) c.args.zone c.args.entries c.args.pages tt answer)) c.self.view_is
-    (subst (λ (after : List BankBook). IfOk c.make_room.result (λ answer. MakesRoom c.self.inside.lent (known_at old c.args.zone) (known_at after c.args.zone) c.args.zone c.args.entries c.args.pages tt answer)) (sym c.make_room.ensures.made)
-    (makes_room c.self.inside.lent old c.args.zone c.args.entries c.args.pages c.make_room.result c.self.invariant.0 c.requires.zone c.make_room.ensures.answer))
+    subst (λ (zones : Lent). IfOk c.make_room.result (λ answer. MakesRoom [] (known_at zones.books c.args.zone) (known_at c.make_room.new.all.items c.args.zone) c.args.zone c.args.entries c.args.pages tt answer)) c.self.view_is
+    (subst (λ (after : List BankBook). IfOk c.make_room.result (λ answer. MakesRoom [] (known_at old c.args.zone) (known_at after c.args.zone) c.args.zone c.args.entries c.args.pages tt answer)) (sym c.make_room.ensures.made)
+    (makes_room [] old c.args.zone c.args.entries c.args.pages c.make_room.result c.self.invariant.0 c.requires.zone c.make_room.ensures.answer))
 
 pub returns-clause-others : goal.returns-clause-others
 returns-clause-others c =
