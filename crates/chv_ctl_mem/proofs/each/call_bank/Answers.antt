@@ -1,3 +1,5 @@
+use Rattle.chv_defs_memory.specs.Zones.{acting}
+use Rattle.chv_defs_memory.proofs.ZoneLaws.{nobody-acts}
 use Rattle.chv_ctl_mem.proofs.ZoneSteps.{call-made, may-ask}
 use Rattle.chv_ctl_mem.proofs.each.call_bank.Goals as goal
 
@@ -7,5 +9,5 @@ owner-requires-clause-condition g c =
 
 pub returns-clause-called : goal.returns-clause-called
 returns-clause-called g c =
-    call-made (g.Z.Banked.lent c.args.zones.now) c.args.zone c.args.bank (g.Z.Banked.known c.args.zones.now) (g.Z.Banked.known c.owner.new.self)
-    c.args.call.now c.owner.result c.requires.home c.owner.ensures.entered c.owner.ensures.others
+    call-made (acting g.Z.Banked.is_shared (g.Z.Banked.lent c.args.zones.now)) c.args.zone c.args.bank (g.Z.Banked.known c.args.zones.now) (g.Z.Banked.known c.owner.new.self)
+    c.args.call.now c.owner.result (nobody-acts g.Z.Banked.is_shared (g.Z.Banked.lent c.args.zones.now) c.requires.home) c.owner.ensures.entered c.owner.ensures.others
