@@ -1,3 +1,4 @@
+pub mod AccessLaws
 pub mod GoingOn
 pub mod LentLaws
 pub mod LentPins

@@ -1,5 +1,5 @@
 -- Contexts that are lent: what the banks' owner and a context's passes tell of them, and what an access of one comes to.
-use Rattle.std.specs.Prelude.{◌≡◌, ℕ, ◌==◌, ◌||◌, Bool, true, false, not, List, ◌++◌, Option, IfSome, Result, Ok, Err, unwrap_or}
+use Rattle.std.specs.Prelude.{◌≡◌, ◌≤◌, ℕ, ◌==◌, ◌||◌, Bool, true, false, not, List, ◌++◌, Option, IfSome, Result, Ok, Err, unwrap_or}
 use Rattle.std.specs.List.{list_all, list_any}
 use Rattle.std.specs.declared.alloc.AllocError.{AllocError}
 use Rattle.chv_defs_memory.specs.declared.bank.BankCall.{BankCall}
@@ -7,7 +7,8 @@ use Rattle.chv_defs_memory.specs.declared.bank.BankReply.{BankReply}
 use Rattle.chv_defs_memory.specs.declared.bank.BankEntry.{BankEntry}
 use Rattle.chv_defs_memory.specs.declared.bank.Refusal.{Refusal}
 use Rattle.chv_defs_memory.specs.BankState.{is_frozen, pins_of, PinOut}
-use Rattle.chv_defs_memory.specs.BankBook.{refusal_of, refused_or, with_entry}
+use Rattle.chv_defs_base.specs.Sizes.{most_entries, most_payload}
+use Rattle.chv_defs_memory.specs.BankBook.{bytes_taken, entries_taken, refusal_of, refused_or, with_entry, BankBook}
 use Rattle.chv_defs_memory.specs.LegalBank.{access_reply, IsLegal}
 
 -- the greatest number of a context, as which it calls on banks
@@ -51,8 +52,15 @@ abbrev pub left_by : List BankEntry → ℕ → BankCall → Result BankReply Re
 left_by at caller c (Ok reply) = with_entry at caller c reply
 left_by at caller c (Err why) = at
 
+-- What a bank holds is within the limits of a book, with the places that are reserved for its owner and those that are kept for
+-- the Unpins of outstanding pins.
+pub record IsWithinLimits (b : BankBook) : Type 0 where
+  pub entries : entries_taken b ≤ most_entries
+  pub bytes : bytes_taken b ≤ most_payload
+
 -- An access in one turn. At the turn the history was a legal one that is not frozen and has, of the caller, what its passes
--- told; the answer is the bank's own by that history and by some reserved places of the owner.
+-- told; the answer is the bank's own by that history and by some reserved places of the owner, with which the bank is within its
+-- limits.
 pub record Accesses (caller zone bank : ℕ) (before after : Option (List BankEntry)) (c : BankCall) (answer : Result BankReply Refusal) : Type 0 where
   pub at : List BankEntry
   pub legal : IsLegal bank at
@@ -60,5 +68,6 @@ pub record Accesses (caller zone bank : ℕ) (before after : Option (List BankEn
   pub seen : IfSome before (λ seen. GoesOnFor caller seen at)
   pub entries : ℕ
   pub pages : ℕ
+  pub limits : IsWithinLimits (record { zone = zone; bank = bank; history = at; entries = entries; pages = pages })
   pub answered : answer ≡ refused_or (refusal_of (record { zone = zone; bank = bank; history = at; entries = entries; pages = pages }) c) (access_reply bank at c)
   pub left : IfSome after (λ told. told ≡ left_by at caller c answer)

@@ -6,7 +6,8 @@ ghost use Rattle.chv_defs_memory.specs.BankBook.{is_unpin, refusal_of, refused_o
 ghost use Rattle.chv_defs_memory.specs.LegalBank.{access_reply, IsLegal};
 ghost use Rattle.chv_defs_memory.specs.BankState.{is_frozen, is_owner_call, IsCall};
 ghost use Rattle.chv_defs_memory.specs.Zones.{acting, book_of, IsBank, OnlySeesMore, OtherBanksStay};
-ghost use Rattle.chv_defs_memory.specs.Lending.{is_in, left_by, most_contexts, told_or, Access, Accesses, GoesOnFor, HasNoPinBy, OneLess, OneMore};
+ghost use Rattle.chv_defs_memory.specs.Lending.{is_in, left_by, most_contexts, told_or, Access, Accesses, GoesOnFor, HasNoPinBy, IsWithinLimits, OneLess, OneMore};
+ghost use Rattle.chv_defs_memory.specs.LentHistory.{TellsOwn};
 
 use crate::{BankCall, BankReply, Banked, Refusal, Zones};
 use std::alloc::AllocError;
@@ -109,6 +110,10 @@ pub trait Reach<R>: Told {
         ensures still_lent { Self.are_lent_to self.new (bank_caller self.new) }
         ensures bank_caller { bank_caller self.new ≡ bank_caller self.old }
         ensures books_told { Self.books_told self.new ≡ Self.books_told self.old };
+
+    /// While the banks are lent to the context it tells what it has seen of each, and of that the context's entries are just its
+    /// own ones.
+    ghost tells_own: { (x : Self) (zone bank : ℕ) → Self.are_lent_to x (bank_caller x) → IsBank zone bank → TellsOwn (bank_caller x) (Self.seen x zone bank) (own x zone bank) };
 }
 
 /// Banks on one thread: an access is made through the banks themselves, for a context that is lent. What the owner knows is
@@ -134,6 +139,7 @@ pub trait Lent: Zones<()> {
             ≡ record (Self.known self.old zone bank) { history = left_by (Self.known self.old zone bank).history caller call.now answer }) }
         ensures legal { IsLegal bank (Self.known self.new zone bank).history }
         ensures thawed { is_frozen (Self.known self.old zone bank).history ≡ false }
+        ensures limits { IsWithinLimits (book_of zone bank (Self.known self.old zone bank)) }
         ensures unpin { is_unpin call.now ≡ true → IsOk result }
         ensures err { OnErr result (Self.known self.new zone bank ≡ Self.known self.old zone bank) }
         ensures others { OtherBanksStay (Self.known self.old) (Self.known self.new) zone bank }

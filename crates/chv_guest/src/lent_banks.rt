@@ -3,6 +3,7 @@ ghost use Rattle.std.specs.Prelude.{◌≡◌, ◌<◌, [], false, refl, IfOk, I
 ghost use Rattle.chv_defs_memory.specs.BankBook.{is_unpin, refusal_of, refused_or, HasItsNumber};
 ghost use Rattle.chv_defs_memory.specs.BankState.{is_owner_call, IsCall};
 ghost use Rattle.chv_defs_memory.specs.LegalBank.{access_reply, IsLegal};
+ghost use Rattle.chv_defs_memory.specs.Lending.{IsWithinLimits};
 ghost use Rattle.chv_defs_memory.specs.Zones.{most_zones, IsBank};
 ghost use Rattle.chv_guest.specs.Accesses.{left_at};
 ghost use Rattle.chv_guest.specs.LentBanks.{bank_at, fresh_zones, known_at, AreAllBanks, AreLentTo};
@@ -144,7 +145,7 @@ impl Lent for LentBanks {
     ghost by_value = { refl };
 }
 
-// Makes an access in a bank, whose history is legal then, whatever is answered.
+// Makes an access in a bank, which is within its limits before, and whose history is legal then, whatever is answered.
 fn access_at(
     bank: &mut Bank,
     caller: u32,
@@ -157,9 +158,11 @@ fn access_at(
     ensures answer { IfOk result (λ answer. answer
         ≡ refused_or (refusal_of bank.old call.now) (access_reply bank.old.bank bank.old.history call.now)) }
     ensures left { bank.new ≡ left_at bank.old caller call.now result }
+    ensures limits { IsWithinLimits bank.old }
     ensures legal { IsLegal bank.new.bank bank.new.history }
     ensures unpin { is_unpin call.now ≡ true → IsOk result }
 {
+    bank.history();
     let answer = bank.access(caller, call);
     bank.history();
     answer

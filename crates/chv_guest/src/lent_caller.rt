@@ -1,9 +1,9 @@
 // A context that is lent, where it reaches the banks.
-ghost use Rattle.std.specs.Prelude.{◌≡◌, ◌≤◌, ◌<◌, ℕ, List, Option, Some, [], ◌==◌, ◌&&◌, true, false, IfOk, IfSome, IsOk, OnErr};
+ghost use Rattle.std.specs.Prelude.{◌≡◌, ◌≤◌, ◌<◌, ℕ, List, Option, Some, [], ◌==◌, ◌&&◌, refl, true, false, IfOk, IfSome, IsOk, OnErr};
 ghost use Rattle.chv_defs_memory.specs.BankBook.{is_unpin, HasItsNumber};
 ghost use Rattle.chv_defs_memory.specs.BankState.{is_owner_call, IsCall};
 ghost use Rattle.chv_defs_memory.specs.Lending.{is_in, left_by, Accesses, GoesOnFor};
-ghost use Rattle.chv_defs_memory.specs.LentHistory.{made_by};
+ghost use Rattle.chv_defs_memory.specs.LentHistory.{made_by, TellsOwn};
 ghost use Rattle.chv_defs_memory.specs.Zones.{IsBank};
 ghost use Rattle.chv_guest.specs.Accesses.{MakesAccess};
 ghost use Rattle.chv_guest.specs.LentBanks.{bank_at};
@@ -62,4 +62,6 @@ impl Reach<()> for LentCaller<'_> {
         self.banks.recall();
         self.banks.access(self.caller, zone, bank, call)
     }
+
+    ghost tells_own = { λ c zone bank lent is. refl };
 }

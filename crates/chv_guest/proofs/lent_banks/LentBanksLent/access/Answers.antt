@@ -3,7 +3,7 @@ use Rattle.chv_defs_memory.specs.BankBook.{refusal_of, refused_or, BankBook, Has
 use Rattle.chv_defs_memory.specs.BankState.{is_frozen, IsCall}
 use Rattle.chv_defs_memory.specs.LegalBank.{access_reply, IsLegal}
 use Rattle.chv_defs_memory.specs.LentHistory.{IsLentTo}
-use Rattle.chv_defs_memory.specs.Lending.{is_in, left_by}
+use Rattle.chv_defs_memory.specs.Lending.{is_in, left_by, IsWithinLimits}
 use Rattle.chv_defs_memory.specs.Zones.{book_of, Known}
 use Rattle.chv_defs_memory.proofs.LentLaws.{lent-thawed}
 use Rattle.chv_guest.specs.Accesses.{left_at}
@@ -44,6 +44,15 @@ returns-clause-answer c =
     ≡ refused_or (refusal_of (book_of c.args.zone c.args.bank (known_at zones.books c.args.zone c.args.bank)) c.args.call.now)
     (access_reply c.args.bank (known_at zones.books c.args.zone c.args.bank).history c.args.call.now))) c.self.view_is
     (subst (λ (b : BankBook). IfOk c.access_at.result (λ answer. answer ≡ refused_or (refusal_of b c.args.call.now) (access_reply b.bank b.history c.args.call.now))) here c.access_at.ensures.answer)
+
+pub returns-clause-limits : goal.returns-clause-limits
+returns-clause-limits c =
+    let old : List BankBook = c.self.inside.banks.items in
+    let here : c.index_mut.result.now ≡ book_of c.args.zone c.args.bank (known_at old c.args.zone c.args.bank) =
+    bank-read old c.args.zone c.args.bank c.place_of.result c.index_mut.result.now c.self.invariant.0 c.requires.zone.0 c.requires.zone.1 c.place_of.ensures c.index_mut.ensures.value
+    ∙ sym (book-known old c.args.zone c.args.bank c.self.invariant.0 c.requires.zone.0 c.requires.zone.1) in
+    subst (λ (zones : Lent). IsWithinLimits (book_of c.args.zone c.args.bank (known_at zones.books c.args.zone c.args.bank))) c.self.view_is
+    (subst IsWithinLimits here c.access_at.ensures.limits)
 
 pub returns-clause-entry : goal.returns-clause-entry
 returns-clause-entry c =

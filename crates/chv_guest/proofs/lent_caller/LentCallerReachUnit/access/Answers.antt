@@ -13,4 +13,4 @@ returns-clause-answer c =
     let books = c.args.self.now.banks.now.books in
     accesses c.args.self.now.caller c.args.zone c.args.bank c.args.call.now c.access.result (known_at books c.args.zone c.args.bank) (known_at c.access.new.self.books c.args.zone c.args.bank)
     (legal-known books c.args.zone c.args.bank c.recall.ensures.all c.requires.zone.0 c.requires.zone.1)
-    c.access.ensures.thawed c.access.ensures.answer c.access.ensures.entry
+    c.access.ensures.thawed c.access.ensures.limits c.access.ensures.answer c.access.ensures.entry
