@@ -14,7 +14,6 @@ mod state;
 mod steps;
 
 pub use bank::Bank;
-pub use kept_bank::BankHistories;
 pub use laws::{
     closed_blocks_are_not_reached, opened_blocks_are_zero, pinned_bank_is_left,
     pinned_blocks_stay_open, reads_give_the_last_write, unwritten_bytes_are_zero,

@@ -8,10 +8,10 @@ use Rattle.atomic_table.proofs.Lists.{set_else}
 use Rattle.chv_book.specs.declared.view.View.{View}
 use Rattle.chv_book.specs.declared.view.Stage.{Stage}
 use Rattle.chv_book.specs.declared.view.Stage.TheVariants.{Opening, Idle, Waits, Serves, Joined, Spent}
-use Rattle.chv_book.specs.Histories.{StartsWith, entries_by, is_out}
+use Rattle.chv_defs_book.specs.Histories.{StartsWith, entries_by, is_out}
 use Rattle.chv_book.specs.TicketRule.{is_live, opening, opened, passed, Board, Lives, HasTicket, WordsTell, Fits, Runs, Opens, GoesInTurns}
 use Rattle.chv_book.specs.TicketSteps.{opens, passes_on, MayPass}
-use Rattle.chv_book.proofs.Histories.{starts_refl, starts_nil, entries_by-append}
+use Rattle.chv_defs_book.proofs.Histories.{starts_refl, starts_nil, entries_by-append}
 use Rattle.chv_book.proofs.Words.{drawn_set, one_served}
 use Rattle.chv_book.proofs.TakesTurn.{same_some, live_at}
 use Rattle.chv_book.proofs.OneView.{off, each_set, lives_more, alone_set, Next, next_of, next_same, running}

@@ -1,4 +1,3 @@
-pub mod Histories
 mod FewTickets
 mod Words
 mod OneView

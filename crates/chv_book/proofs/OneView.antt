@@ -10,9 +10,9 @@ use Rattle.atomic_table.proofs.Lists.{at_set, set_here, set_else, one_turn}
 use Rattle.chv_book.specs.declared.view.View.{View}
 use Rattle.chv_book.specs.declared.view.Stage.{Stage}
 use Rattle.chv_book.specs.declared.view.Stage.TheVariants.{Opening, Idle, Waits, Serves, Joined, Spent}
-use Rattle.chv_book.specs.Histories.{StartsWith, entries_by, is_out}
+use Rattle.chv_defs_book.specs.Histories.{StartsWith, entries_by, is_out}
 use Rattle.chv_book.specs.TicketRule.{is_live, has_ticket, opening, Board, Lives, HasTicket, Fits, Runs, GoesInTurns}
-use Rattle.chv_book.proofs.Histories.{starts_trans}
+use Rattle.chv_defs_book.proofs.Histories.{starts_trans}
 use Rattle.chv_book.proofs.FewTickets.{no_more_than}
 
 pub off : {A : Type 0} (b : Bool) → b ≡ true → b ≡ false → A

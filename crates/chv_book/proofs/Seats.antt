@@ -10,10 +10,10 @@ use Rattle.atomic_table.proofs.Lists.{at_set, at_longer, set_here, set_else}
 use Rattle.chv_book.specs.declared.view.View.{View}
 use Rattle.chv_book.specs.declared.view.Stage.{Stage}
 use Rattle.chv_book.specs.declared.view.Stage.TheVariants.{Idle, Serves, Joined}
-use Rattle.chv_book.specs.Histories.{entries_by, longer, is_out, without}
+use Rattle.chv_defs_book.specs.Histories.{entries_by, longer, is_out, without}
 use Rattle.chv_book.specs.TicketRule.{is_live, has_ticket, lending, newcomer, rejoined, settled, spent, Board, Fits, Runs, GoesInTurns}
 use Rattle.chv_book.specs.TicketSteps.{settles}
-use Rattle.chv_book.proofs.Histories.{entries_between, whole, longer_front, joins_of, is_out_front, is_out_later, is_out_not, is_out_without, without_nil}
+use Rattle.chv_defs_book.proofs.Histories.{entries_between, whole, longer_front, joins_of, is_out_front, is_out_later, is_out_not, is_out_without, without_nil}
 use Rattle.chv_book.proofs.Words.{looked_at}
 use Rattle.chv_book.proofs.TakesTurn.{live_at, others_stay}
 use Rattle.chv_book.proofs.OneView.{off, len_at, each_set, Alone, alone_set, Next, next_of, next_same, lives_at, running}

@@ -11,10 +11,10 @@ use Rattle.atomic_table.proofs.Lists.{set_here, set_else, set_again}
 use Rattle.chv_book.specs.declared.view.View.{View}
 use Rattle.chv_book.specs.declared.view.Stage.{Stage}
 use Rattle.chv_book.specs.declared.view.Stage.TheVariants.{Opening, Idle, Waits, Serves, Joined, Spent}
-use Rattle.chv_book.specs.Histories.{StartsWith, entries_by, is_out}
+use Rattle.chv_defs_book.specs.Histories.{StartsWith, entries_by, is_out}
 use Rattle.chv_book.specs.TicketRule.{is_live, has_ticket, waiting, serving, Board, Lives, HasTicket, Fits, SlotFits, Runs, GoesInTurns}
 use Rattle.chv_book.specs.TicketSteps.{draws, looks, Begun}
-use Rattle.chv_book.proofs.Histories.{bool_cases, starts_refl}
+use Rattle.chv_defs_book.proofs.Histories.{bool_cases, starts_refl}
 use Rattle.chv_book.proofs.Words.{looked_at, one_drawn}
 use Rattle.chv_book.proofs.OneView.{off, put, put_here, put_else, len_at, each_set, lives_more, alone_set, Next, next_of, next_same, lives_at, running, its_turn}
 

@@ -2,12 +2,12 @@
 use Rattle.std.proofs.Common.{◌≡◌, ◌≢◌, ◌⊎◌, ℕ, List, [], ◌∷◌, ◌++◌, length, Option, Some, None, Bool, true≢false, sym, ap, ◌∙◌, subst, subst₂, ⊎_elim}
 use Rattle.atomic_table.specs.Seated.{TableId}
 use Rattle.chv_book.specs.declared.view.View.{View}
-use Rattle.chv_book.specs.Histories.{entries_by}
-use Rattle.chv_book.specs.Passes.{turn_of, Begins, IsFree, MayEnd, PassView, TurnView}
+use Rattle.chv_defs_book.specs.Histories.{entries_by}
+use Rattle.chv_defs_book.specs.Passes.{turn_of, Begins, IsFree, MayEnd, PassView, TurnView}
 use Rattle.chv_book.specs.PassSeats.{held, pass_of, rested, Rests}
 use Rattle.chv_book.specs.TicketRule.{serving, waiting}
 use Rattle.chv_book.specs.TicketSteps.{Begun, MayPass}
-use Rattle.chv_book.proofs.Histories.{others_new, out_new}
+use Rattle.chv_defs_book.proofs.Histories.{others_new, out_new}
 
 module _ {E O : Type 0} where
   -- a free pass has seen as many entries as it says

@@ -1,5 +1,3 @@
-pub mod Histories
-pub mod Passes
 pub mod PassSeats
 pub mod TicketRule
 pub mod TicketSteps

@@ -3,7 +3,7 @@ use Rattle.std.specs.Prelude.{◌≡◌, ℕ, true, List, [], ◌∷◌, length}
 use Rattle.atomic_table.specs.Seated.{TableId}
 use Rattle.chv_book.specs.declared.view.View.{View}
 use Rattle.chv_book.specs.declared.view.Stage.TheVariants.{Idle}
-use Rattle.chv_book.specs.Passes.{in_turn, PassView, TurnView}
+use Rattle.chv_defs_book.specs.Passes.{in_turn, PassView, TurnView}
 
 module _ {E O : Type 0} where
   -- a pass whose seat has this view

@@ -9,8 +9,8 @@ use Rattle.atomic_table.specs.Table.{State}
 use Rattle.chv_book.specs.declared.view.View.{View}
 use Rattle.chv_book.specs.declared.view.Stage.{Stage}
 use Rattle.chv_book.specs.declared.view.Stage.TheVariants.{Opening, Idle, Waits, Serves, Joined, Spent}
-use Rattle.chv_book.specs.Histories.{entries_by, is_out, longer, without, StartsWith}
-use Rattle.chv_book.specs.Passes.{Joins}
+use Rattle.chv_defs_book.specs.Histories.{entries_by, is_out, longer, without, StartsWith}
+use Rattle.chv_defs_book.specs.Passes.{Joins}
 
 -- whether a seat is one of a pass or of a turn
 abbrev pub is_live : Stage → Bool

@@ -3,8 +3,8 @@ use Rattle.std.specs.Prelude.{◌≡◌, ◌≢◌, ℕ, ◌%◌, ◌^◌, List,
 use mathlib.Core.Option.{some}
 use Rattle.atomic_table.specs.Table.{Me, Step}
 use Rattle.chv_book.specs.declared.view.View.{View}
-use Rattle.chv_book.specs.Histories.{entries_by, is_out, StartsWith}
-use Rattle.chv_book.specs.Passes.{Joins}
+use Rattle.chv_defs_book.specs.Histories.{entries_by, is_out, StartsWith}
+use Rattle.chv_defs_book.specs.Passes.{Joins}
 use Rattle.chv_book.specs.TicketRule.{opened, passed, serving, settled, waiting}
 
 module _ {V E O : Type 0} where

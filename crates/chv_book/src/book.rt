@@ -1,5 +1,5 @@
 // A value that keeps a history, and the lock round it.
-use crate::kept::{EntryKind, Kept};
+use crate::kept::Kept;
 use crate::pass::Pass;
 use crate::turn::Turn;
 use crate::view::{
@@ -26,7 +26,7 @@ const LOOKS_AT_ONCE: u32 = 64;
 /// A value that keeps a history, behind a lock. Passes take turns at it in the order of their tickets. Contracts see which book
 /// it is.
 pub struct Book<V: Kept> {
-    table: Table<Option<V>, ViewOf<V::Kind>, (), InTurns<V>, Global>,
+    table: Table<Option<V>, ViewOf<V::Entry>, (), InTurns<V>, Global>,
 }
 
 impl<V: Kept> Model for Book<V> {
@@ -43,13 +43,13 @@ impl<V: Kept> Model for Book<V> {
 impl<V: Kept> Book<V> {
     ghost use Rattle.std.specs.Prelude.{◌≡◌, ◌≢◌, ℕ, List, [], ◌∷◌, ◌++◌, ◌<◌, ◌%◌, ◌^◌, IfOk, IfErr, false, Some};
     ghost use Rattle.chv_book.specs.declared.view.Stage.TheVariants.{Waits};
-    ghost use Rattle.chv_book.specs.Histories.{entries_by, is_out};
-    ghost use Rattle.chv_book.specs.Passes.{behind, first_pass, in_turn, split_off, taken_back, turn_of, with_out, Appends, Begins, IsFirst, IsFree, Joins, MayEnd};
+    ghost use Rattle.chv_defs_book.specs.Histories.{entries_by, is_out};
+    ghost use Rattle.chv_defs_book.specs.Passes.{behind, first_pass, in_turn, split_off, taken_back, turn_of, with_out, Appends, Begins, IsFirst, IsFree, Joins, MayEnd};
     ghost use Rattle.chv_book.specs.TicketRule.{serving};
     ghost use Rattle.chv_book.specs.TicketSteps.{Begun};
 
     /// A book of this value, which has no entry yet, and the first pass, caller 0's. The value comes back for want of memory.
-    pub fn new(alloc: Global, value: V) -> Result<(Book<V>, Pass<V::Kind>), V>
+    pub fn new(alloc: Global, value: V) -> Result<(Book<V>, Pass<V::Entry>), V>
         requires { V.history value ≡ [] }
         ensures pass { IfOk result (λ made. made.1 ≡ first_pass made.0 (V.origin value) (V.side value)) }
         ensures back { IfErr result (λ given. given ≡ value) }
@@ -71,11 +71,11 @@ impl<V: Kept> Book<V> {
     }
 
     // Looks until its ticket is served, and takes the slot.
-    fn await_turn<R: Wait>(&self, rt: &R, seat: &mut Seat<Option<V>, ViewOf<V::Kind>>, ticket: u64)
+    fn await_turn<R: Wait>(&self, rt: &R, seat: &mut Seat<Option<V>, ViewOf<V::Entry>>, ticket: u64)
         requires book { seat.old.table_id ≡ self.now }
         requires waits { (seat.old.me.0.stage ≡ Waits) × (seat.old.me.1 ≡ []) × (ticket ≡ seat.old.me.0.ticket % 2 ^ 64) }
         ensures book { seat.new.table_id ≡ seat.old.table_id }
-        ensures turn { (y : V) × (seat.new.me ≡ (serving (V.history y) (V.side y) seat.old.me.0, (0, Some y) ∷ [])) × Begun V.Kind.made_by V.history V.side V.origin V.is_still seat.old.me.0 y }
+        ensures turn { (y : V) × (seat.new.me ≡ (serving (V.history y) (V.side y) seat.old.me.0, (0, Some y) ∷ [])) × Begun V.Entry.made_by V.history V.side V.origin V.Entry.is_still seat.old.me.0 y }
     {
         let mut looks = 0;
         for _ in rt.forever() {
@@ -92,13 +92,13 @@ impl<V: Kept> Book<V> {
     }
 
     /// Begins a turn: hands the value out. It may wait for other callers, and no clause says that the turn comes.
-    pub fn begin<R: Wait + Copy>(&self, rt: R, pass: &mut Pass<V::Kind>) -> Turn<V>
+    pub fn begin<R: Wait + Copy>(&self, rt: R, pass: &mut Pass<V::Entry>) -> Turn<V>
         requires book { pass.old.book ≡ self.now }
         requires free { IsFree pass.old }
         ensures pass { pass.new ≡ in_turn pass.old.caller }
         ensures turn { result ≡ turn_of pass.old result.value (V.history result.value) (V.side result.value) }
         ensures origin { pass.old.origin ≡ Some (V.origin result.value) }
-        ensures value { Begins V.Kind.made_by V.is_still pass.old (V.history result.value) (V.side result.value) }
+        ensures value { Begins V.Entry.made_by V.Entry.is_still pass.old (V.history result.value) (V.side result.value) }
     {
         let mut seat = pass.take();
         let ticket = self.table.shared.fetch_add::<Draws<V>>(&mut seat, DRAWN, 1);
@@ -110,12 +110,12 @@ impl<V: Kept> Book<V> {
     }
 
     // Ends a turn, whatever it added of its own.
-    fn end_turn(&self, pass: &mut Pass<V::Kind>, turn: Turn<V>)
+    fn end_turn(&self, pass: &mut Pass<V::Entry>, turn: Turn<V>)
         requires book { turn.book ≡ self.now }
         requires caller { turn.caller ≡ pass.old.caller }
-        requires own { (added : List V.Kind.Entry) × (V.history turn.value ≡ turn.noted ++ added) × ((n : ℕ) → n ≢ turn.caller → entries_by V.Kind.made_by n added ≡ []) }
+        requires own { (added : List V.Entry) × (V.history turn.value ≡ turn.noted ++ added) × ((n : ℕ) → n ≢ turn.caller → entries_by V.Entry.made_by n added ≡ []) }
         requires origin { turn.origin ≡ Some (V.origin turn.value) }
-        requires may { MayEnd V.Kind.made_by V.is_still turn (V.history turn.value) (V.side turn.value) }
+        requires may { MayEnd V.Entry.made_by V.Entry.is_still turn (V.history turn.value) (V.side turn.value) }
         ensures { pass.new ≡ behind turn (V.history turn.value) (V.side turn.value) }
     {
         let (value, mut seat) = turn.into_parts();
@@ -131,38 +131,38 @@ impl<V: Kept> Book<V> {
     }
 
     /// Ends a turn in which one entry of the caller was appended.
-    pub fn finish(&self, pass: &mut Pass<V::Kind>, turn: Turn<V>)
+    pub fn finish(&self, pass: &mut Pass<V::Entry>, turn: Turn<V>)
         requires book { turn.book ≡ self.now }
         requires caller { turn.caller ≡ pass.old.caller }
-        requires one { Appends V.Kind.made_by turn.caller turn.noted (V.history turn.value) }
+        requires one { Appends V.Entry.made_by turn.caller turn.noted (V.history turn.value) }
         requires origin { turn.origin ≡ Some (V.origin turn.value) }
-        requires may { MayEnd V.Kind.made_by V.is_still turn (V.history turn.value) (V.side turn.value) }
+        requires may { MayEnd V.Entry.made_by V.Entry.is_still turn (V.history turn.value) (V.side turn.value) }
         ensures { pass.new ≡ behind turn (V.history turn.value) (V.side turn.value) }
     {
         self.end_turn(pass, turn);
     }
 
     /// Ends a turn in which nothing was appended.
-    pub fn leave(&self, pass: &mut Pass<V::Kind>, turn: Turn<V>)
+    pub fn leave(&self, pass: &mut Pass<V::Entry>, turn: Turn<V>)
         requires book { turn.book ≡ self.now }
         requires caller { turn.caller ≡ pass.old.caller }
         requires none { V.history turn.value ≡ turn.noted }
         requires origin { turn.origin ≡ Some (V.origin turn.value) }
-        requires may { MayEnd V.Kind.made_by V.is_still turn (V.history turn.value) (V.side turn.value) }
+        requires may { MayEnd V.Entry.made_by V.Entry.is_still turn (V.history turn.value) (V.side turn.value) }
         ensures { pass.new ≡ behind turn (V.history turn.value) (V.side turn.value) }
     {
         self.end_turn(pass, turn);
     }
 
     // `split`, for the number that the call picks.
-    fn split_as<N: Number>(&self, first: &mut Pass<V::Kind>, caller: u32) -> Pass<V::Kind>
+    fn split_as<N: Number>(&self, first: &mut Pass<V::Entry>, caller: u32) -> Pass<V::Entry>
         requires number { caller ≡ N.number }
         requires book { first.old.book ≡ self.now }
         requires free { IsFree first.old }
         requires first { IsFirst first.old }
         requires caller { 0 < caller }
         requires home { is_out caller first.old.out ≡ false }
-        requires moving { V.is_still (entries_by V.Kind.made_by 0 first.old.seen) ≡ false }
+        requires moving { V.Entry.is_still (entries_by V.Entry.made_by 0 first.old.seen) ≡ false }
         ensures first { first.new ≡ with_out caller first.old }
         ensures pass { result ≡ split_off caller first.old }
     {
@@ -175,13 +175,13 @@ impl<V: Kept> Book<V> {
 
     /// A pass for another caller, whose number is not out. It has seen what the first pass has, and takes over the entries that
     /// earlier passes of its number made.
-    pub fn split(&self, first: &mut Pass<V::Kind>, caller: u32) -> Pass<V::Kind>
+    pub fn split(&self, first: &mut Pass<V::Entry>, caller: u32) -> Pass<V::Entry>
         requires book { first.old.book ≡ self.now }
         requires free { IsFree first.old }
         requires first { IsFirst first.old }
         requires caller { 0 < caller }
         requires home { is_out caller first.old.out ≡ false }
-        requires moving { V.is_still (entries_by V.Kind.made_by 0 first.old.seen) ≡ false }
+        requires moving { V.Entry.is_still (entries_by V.Entry.made_by 0 first.old.seen) ≡ false }
         ensures first { first.new ≡ with_out caller first.old }
         ensures pass { result ≡ split_off caller first.old }
     {
@@ -189,12 +189,12 @@ impl<V: Kept> Book<V> {
     }
 
     /// Ends a pass: the first pass has then seen the longer of the two histories.
-    pub fn end(&self, into: &mut Pass<V::Kind>, ended: Pass<V::Kind>)
+    pub fn end(&self, into: &mut Pass<V::Entry>, ended: Pass<V::Entry>)
         requires book { (into.old.book ≡ self.now) × (ended.book ≡ self.now) }
         requires free { IsFree into.old × IsFree ended }
         requires first { IsFirst into.old }
         ensures pass { into.new ≡ taken_back into.old ended }
-        ensures seen { Joins V.Kind.made_by into.old.seen into.old.out ended.seen ended.caller into.new.seen }
+        ensures seen { Joins V.Entry.made_by into.old.seen into.old.out ended.seen ended.caller into.new.seen }
     {
         let mine = into.seen();
         let theirs = ended.seen();
@@ -209,7 +209,7 @@ impl<V: Kept> Book<V> {
     }
 
     /// Gives the value up, where no pass but the first is left.
-    pub fn close(self, pass: Pass<V::Kind>) -> V
+    pub fn close(self, pass: Pass<V::Entry>) -> V
         requires book { pass.book ≡ self }
         requires free { IsFree pass }
         requires first { IsFirst pass }

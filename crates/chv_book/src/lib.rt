@@ -10,6 +10,6 @@ mod turn_value;
 mod view;
 
 pub use book::Book;
-pub use kept::{EntryKind, Kept};
+pub use kept::Kept;
 pub use pass::Pass;
 pub use turn::Turn;

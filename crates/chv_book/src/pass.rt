@@ -1,31 +1,32 @@
 // The right to take turns.
-use crate::kept::EntryKind;
+
 use crate::view::ViewOf;
 use atomic_table::{Badge, Seat};
+use chv_defs_book::HistoryEntry;
 use std::marker::Model;
 
 /// A caller's right to take turns at a book, with what it has seen of the history. It may be let go; then its number stays out,
 /// and the book is not closed.
-pub struct Pass<E: EntryKind> {
+pub struct Pass<E: HistoryEntry> {
     caller: u32,
     seen: u64,
     badge: Badge<ViewOf<E>>,
 }
 
-impl<E: EntryKind> Model for Pass<E> {
+impl<E: HistoryEntry> Model for Pass<E> {
     ghost use Rattle.std.specs.Prelude.{◌≡◌, ◌⊎◌, [], ◌∷◌};
     ghost use Rattle.chv_book.specs.declared.view.View.{View};
-    ghost use Rattle.chv_book.specs.Passes.{PassView};
+    ghost use Rattle.chv_defs_book.specs.Passes.{PassView};
     ghost use Rattle.chv_book.specs.PassSeats.{pass_of, Rests};
 
-    ghost Value = { PassView E.Entry E.Origin };
+    ghost Value = { PassView E E.Origin };
 
     ghost view = { λ p. pass_of p.badge.table_id p.caller p.badge.views };
 
-    ghost invariant = { λ p. (p.badge.views ≡ []) ⊎ ((v : View E.Entry E.Origin) × (p.badge.views ≡ v ∷ []) × Rests p.caller p.seen v) };
+    ghost invariant = { λ p. (p.badge.views ≡ []) ⊎ ((v : View E E.Origin) × (p.badge.views ≡ v ∷ []) × Rests p.caller p.seen v) };
 }
 
-impl<E: EntryKind> Drop for Pass<E> {
+impl<E: HistoryEntry> Drop for Pass<E> {
     fn drop(self) {
         let Self {
             caller: _,
@@ -35,10 +36,10 @@ impl<E: EntryKind> Drop for Pass<E> {
     }
 }
 
-impl<E: EntryKind> Pass<E> {
+impl<E: HistoryEntry> Pass<E> {
     ghost use Rattle.std.specs.Prelude.{◌≡◌, [], length};
     ghost use Rattle.chv_book.specs.declared.view.Stage.TheVariants.{Idle};
-    ghost use Rattle.chv_book.specs.Passes.{in_turn, IsFree};
+    ghost use Rattle.chv_defs_book.specs.Passes.{in_turn, IsFree};
     ghost use Rattle.chv_book.specs.PassSeats.{Rests, rested};
 
     /// Whose it is. 0 is the owner of the value, who has the first pass.

@@ -9,7 +9,7 @@ use crate::turn::Turn;
 impl<V: Kept> Turn<V> {
     /// The value. When the borrow ends, the turn has what was written through it.
     pub fn value(&mut self) -> &mut V
-        ensures* writes_back { sem 𝓛 (lends_value V.row V.Kind.row V.Kind.Entry.row V.Kind.Origin.row V.Kept V.Kind.EntryKind self.entry result) }
+        ensures* writes_back { sem 𝓛 (lends_value V.row V.Entry.row V.Entry.Origin.row V.Kept V.Entry.HistoryEntry self.entry result) }
         ensures value { result.now ≡ self.old.value }
     {
         &mut self.value

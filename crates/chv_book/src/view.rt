@@ -1,6 +1,7 @@
 // What a seat of a book's table knows, and what each step of the table tells. No value of these types is made.
-use crate::kept::{EntryKind, Kept};
+use crate::kept::Kept;
 use atomic_table::{Join, Play, Split, TableRule};
+use chv_defs_book::HistoryEntry;
 use std::collections::LinkedList;
 use std::marker::{Brand, PhantomData};
 
@@ -38,18 +39,18 @@ pub struct View<E, O> {
     pub back_caller: u32,
 }
 
-/// The view of a seat at a history of this kind.
-pub type ViewOf<K> = View<<K as EntryKind>::Entry, <K as EntryKind>::Origin>;
+/// The view of a seat at a history of these entries.
+pub type ViewOf<E> = View<E, <E as HistoryEntry>::Origin>;
 
 /// The rule of a book's table.
 pub struct InTurns<V> {
     marker: PhantomData<V>,
 }
 
-impl<V: Kept> TableRule<Option<V>, ViewOf<V::Kind>, ()> for InTurns<V> {
+impl<V: Kept> TableRule<Option<V>, ViewOf<V::Entry>, ()> for InTurns<V> {
     ghost use Rattle.chv_book.specs.TicketRule.{GoesInTurns, opening};
 
-    ghost holds = { λ _. GoesInTurns V.Kind.made_by V.history V.side V.origin V.is_still };
+    ghost holds = { λ _. GoesInTurns V.Entry.made_by V.history V.side V.origin V.Entry.is_still };
 
     ghost first = { λ _. opening };
 }
@@ -59,7 +60,7 @@ pub struct Opens<V> {
     marker: PhantomData<V>,
 }
 
-impl<V: Kept> Play<Option<V>, ViewOf<V::Kind>> for Opens<V> {
+impl<V: Kept> Play<Option<V>, ViewOf<V::Entry>> for Opens<V> {
     ghost use Rattle.chv_book.specs.TicketSteps.{opens};
 
     ghost then = { opens V.side V.origin };
@@ -70,7 +71,7 @@ pub struct Draws<V> {
     marker: PhantomData<V>,
 }
 
-impl<V: Kept> Play<Option<V>, ViewOf<V::Kind>> for Draws<V> {
+impl<V: Kept> Play<Option<V>, ViewOf<V::Entry>> for Draws<V> {
     ghost use Rattle.chv_book.specs.TicketSteps.{draws};
 
     ghost then = { draws };
@@ -81,10 +82,10 @@ pub struct Looks<V> {
     marker: PhantomData<V>,
 }
 
-impl<V: Kept> Play<Option<V>, ViewOf<V::Kind>> for Looks<V> {
+impl<V: Kept> Play<Option<V>, ViewOf<V::Entry>> for Looks<V> {
     ghost use Rattle.chv_book.specs.TicketSteps.{looks};
 
-    ghost then = { looks V.Kind.made_by V.history V.side V.origin V.is_still };
+    ghost then = { looks V.Entry.made_by V.history V.side V.origin V.Entry.is_still };
 }
 
 /// The turn is passed, and the slot given back.
@@ -92,7 +93,7 @@ pub struct PassesOn<V> {
     marker: PhantomData<V>,
 }
 
-impl<V: Kept> Play<Option<V>, ViewOf<V::Kind>> for PassesOn<V> {
+impl<V: Kept> Play<Option<V>, ViewOf<V::Entry>> for PassesOn<V> {
     ghost use Rattle.chv_book.specs.TicketSteps.{passes_on};
 
     ghost then = { passes_on V.history V.side };
@@ -103,10 +104,10 @@ pub struct Settles<V> {
     marker: PhantomData<V>,
 }
 
-impl<V: Kept> Play<Option<V>, ViewOf<V::Kind>> for Settles<V> {
+impl<V: Kept> Play<Option<V>, ViewOf<V::Entry>> for Settles<V> {
     ghost use Rattle.chv_book.specs.TicketSteps.{settles};
 
-    ghost then = { settles V.Kind.made_by };
+    ghost then = { settles V.Entry.made_by };
 }
 
 /// The number of a new pass, which a call picks.

@@ -2,6 +2,7 @@
 #![tactic(auto)]
 
 mod bank;
+mod bank_history;
 mod lends;
 mod zones;
 

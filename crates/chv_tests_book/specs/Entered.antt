@@ -1,8 +1,8 @@
 -- Numbers that callers enter.
 use Rattle.std.specs.Prelude.{◌≡◌, ℕ, List, map}
 use Rattle.atomic_table.specs.Seated.{TableId}
-use Rattle.chv_book.specs.Histories.{entries_by}
-use Rattle.chv_book.specs.Passes.{IsFree, PassView}
+use Rattle.chv_defs_book.specs.Histories.{entries_by}
+use Rattle.chv_defs_book.specs.Passes.{IsFree, PassView}
 use Rattle.chv_tests_book.specs.declared.tally.Entered.{Entered}
 
 -- who entered a number

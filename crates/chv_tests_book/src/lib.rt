@@ -10,6 +10,6 @@ mod tests;
 mod threads;
 mod turns;
 
-pub use tally::{Entered, Numbers, Tally};
+pub use tally::{Entered, Tally};
 pub use threads::{four_callers, two_callers};
 pub use turns::{enter, enter_all, look};

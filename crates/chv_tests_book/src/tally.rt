@@ -1,5 +1,6 @@
 // A kept value of the plainest kind.
-use chv_book::{EntryKind, Kept};
+use chv_book::Kept;
+use chv_defs_book::HistoryEntry;
 use std::alloc::{AllocError, Global};
 
 /// A number with who entered it.
@@ -9,20 +10,21 @@ pub struct Entered {
     pub number: u64,
 }
 
-/// The kind of a tally's entries. What no call changes is its place.
-pub struct Numbers;
-
-impl EntryKind for Numbers {
+/// What no call changes of a tally is its place. It is never still.
+impl HistoryEntry for Entered {
+    ghost use Rattle.std.specs.Prelude.{false, refl};
     ghost use Rattle.chv_tests_book.specs.Entered.{caller_of};
-
-    type Entry = Entered;
 
     type Origin = u8;
 
     ghost made_by = { caller_of };
+
+    ghost is_still = { λ _. false };
+
+    ghost begins_moving = { refl };
 }
 
-/// Numbers in the order in which they were entered. It has no side and is never still.
+/// Numbers in the order in which they were entered. It has no side.
 #[derive(Drop)]
 pub struct Tally {
     pub entries: Vec<Entered>,
@@ -30,17 +32,13 @@ pub struct Tally {
 }
 
 impl Kept for Tally {
-    ghost use Rattle.std.specs.Prelude.{false, refl};
-
-    type Kind = Numbers;
+    type Entry = Entered;
 
     ghost history = { λ t. t.entries.items };
 
     ghost side = { λ _. (0, 0) };
 
     ghost origin = { λ t. t.place };
-
-    ghost is_still = { λ _. false };
 
     fn entries(&self) -> u64 {
         self.entries.len() as u64
@@ -50,8 +48,6 @@ impl Kept for Tally {
         let last = self.entries.last()?;
         Some(last.caller)
     }
-
-    ghost begins_moving = { refl };
 }
 
 impl Tally {

@@ -1,9 +1,9 @@
 // Callers on threads of their own.
 ghost use Rattle.std.specs.Prelude.{◌≡◌, [], take, IfSome};
-ghost use Rattle.chv_book.specs.Histories.{entries_by};
+ghost use Rattle.chv_defs_book.specs.Histories.{entries_by};
 ghost use Rattle.chv_tests_book.specs.Entered.{caller_of, entered, HasEntered};
 
-use crate::tally::{Numbers, Tally};
+use crate::tally::{Entered, Tally};
 use crate::turns::enter_all;
 use chv_book::{Book, Pass};
 use std::alloc::Global;
@@ -15,11 +15,11 @@ use std::thread::Threads;
 fn enter_beside<R: Threads + Wait + Copy + Send + Sync>(
     rt: R,
     book: &Book<Tally>,
-    one: Pass<Numbers>,
-    other: Pass<Numbers>,
+    one: Pass<Entered>,
+    other: Pass<Entered>,
     a: &[u64],
     b: &[u64],
-) -> ((Pass<Numbers>, usize), (Pass<Numbers>, usize))
+) -> ((Pass<Entered>, usize), (Pass<Entered>, usize))
     requires one { HasEntered book.now one.caller [] one }
     requires other { HasEntered book.now other.caller [] other }
     ensures one { HasEntered book.now one.caller (take result.0.1 a.now) result.0.0 }

@@ -1,10 +1,10 @@
 // Turns at a tally.
 ghost use Rattle.std.specs.Prelude.{◌≡◌, ◌≢◌, ◌++◌, ◌∷◌, [], length, take, true, false};
-ghost use Rattle.chv_book.specs.Histories.{entries_by, StartsWith};
-ghost use Rattle.chv_book.specs.Passes.{IsFree};
+ghost use Rattle.chv_defs_book.specs.Histories.{entries_by, StartsWith};
+ghost use Rattle.chv_defs_book.specs.Passes.{IsFree};
 ghost use Rattle.chv_tests_book.specs.Entered.{caller_of, entered, HasEntered};
 
-use crate::tally::{Numbers, Tally};
+use crate::tally::{Entered, Tally};
 use chv_book::{Book, Kept, Pass};
 use std::sync::Wait;
 
@@ -12,7 +12,7 @@ use std::sync::Wait;
 pub fn enter<R: Wait + Copy>(
     rt: R,
     book: &Book<Tally>,
-    pass: &mut Pass<Numbers>,
+    pass: &mut Pass<Entered>,
     number: u64,
 ) -> bool
     requires book { pass.old.book ≡ book.now }
@@ -33,7 +33,7 @@ pub fn enter<R: Wait + Copy>(
 }
 
 /// One turn that is left: how many entries there are.
-pub fn look<R: Wait + Copy>(rt: R, book: &Book<Tally>, pass: &mut Pass<Numbers>) -> u64
+pub fn look<R: Wait + Copy>(rt: R, book: &Book<Tally>, pass: &mut Pass<Entered>) -> u64
     requires book { pass.old.book ≡ book.now }
     requires free { IsFree pass.old }
     ensures same { (pass.new.book ≡ pass.old.book) × (pass.new.caller ≡ pass.old.caller) × IsFree pass.new × (pass.new.out ≡ pass.old.out) }
@@ -50,9 +50,9 @@ pub fn look<R: Wait + Copy>(rt: R, book: &Book<Tally>, pass: &mut Pass<Numbers>)
 pub fn enter_all<R: Wait + Copy>(
     rt: R,
     book: &Book<Tally>,
-    mut pass: Pass<Numbers>,
+    mut pass: Pass<Entered>,
     numbers: &[u64],
-) -> (Pass<Numbers>, usize)
+) -> (Pass<Entered>, usize)
     requires pass { HasEntered book.now pass.caller [] pass }
     ensures { HasEntered book.now pass.caller (take result.1 numbers.now) result.0 }
 {

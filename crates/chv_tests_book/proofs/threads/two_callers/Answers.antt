@@ -1,6 +1,6 @@
 use Rattle.std.proofs.Common.{◌≡◌, ℕ, [], ◌∷◌, take, ap, ◌∙◌, subst}
-use Rattle.chv_book.specs.Histories.{entries_by, is_out, without}
-use Rattle.chv_book.proofs.Histories.{joined_home, joined_own}
+use Rattle.chv_defs_book.specs.Histories.{entries_by, is_out, without}
+use Rattle.chv_defs_book.proofs.Histories.{joined_home, joined_own}
 use Rattle.chv_tests_book.specs.Entered.{caller_of, entered}
 use Rattle.chv_tests_book.proofs.threads.two_callers.Goals as goal
 

@@ -1,6 +1,6 @@
 use Rattle.std.proofs.Common.{rules, ◌≡◌, ℕ, ◌++◌, ◌∷◌, [], List, refl, ap, ◌∙◌}
-use Rattle.chv_book.specs.Histories.{entries_by}
-use Rattle.chv_book.proofs.Histories.{begins_own, entries_by-push}
+use Rattle.chv_defs_book.specs.Histories.{entries_by}
+use Rattle.chv_defs_book.proofs.Histories.{begins_own, entries_by-push}
 use Rattle.chv_tests_book.specs.Entered.{caller_of}
 use Rattle.chv_tests_book.specs.declared.tally.Entered.{Entered}
 use Rattle.chv_tests_book.proofs.turns.enter.Goals as goal

@@ -8,7 +8,7 @@ pub fetch_add-ticket-requires : goal.fetch_add-ticket-requires
 fetch_add-ticket-requires g c =
     let k = g.V.Kept in
     let t = c.take-seat.ensures in
-    (search rules, search rules, draw g.V.Kind.EntryKind.made_by k.history k.side k.origin k.is_still _ _ c.take-seat.result.me t.idle t.empty)
+    (search rules, search rules, draw g.V.Entry.HistoryEntry.made_by k.history k.side k.origin g.V.Entry.HistoryEntry.is_still _ _ c.take-seat.result.me t.idle t.empty)
 
 pub exchange-requires : goal.exchange-requires
 exchange-requires g c =
@@ -23,7 +23,7 @@ returns-clause-turn g c =
     let d = c.fetch_add-ticket.ensures in
     let w = c.await_turn.ensures.turn in
     let x = c.exchange.ensures in
-    (turn_begins g.V.Kind.EntryKind.made_by k.history k.side k.origin k.is_still c.args.pass.now _ _ c.take-seat.result.me.0 _ _ _ d.2.0 w.0 c.in-Some.value c.of.result t.pass t.caller d.2.2 (ap (λ m. m.0) w.1) w.2 (ap (λ m. m.0) x.3)
+    (turn_begins g.V.Entry.HistoryEntry.made_by k.history k.side k.origin g.V.Entry.HistoryEntry.is_still c.args.pass.now _ _ c.take-seat.result.me.0 _ _ _ d.2.0 w.0 c.in-Some.value c.of.result t.pass t.caller d.2.2 (ap (λ m. m.0) w.1) w.2 (ap (λ m. m.0) x.3)
     (slot_value w.0 c.in-Some.value c.await_turn.new.seat.me.1 c.exchange.result _ (ap (λ m. m.1) w.1) x.2 c.in-Some.is) (x.0 ∙ c.await_turn.ensures.book ∙ d.0) c.of.ensures).0
 
 pub returns-clause-origin : goal.returns-clause-origin
@@ -33,7 +33,7 @@ returns-clause-origin g c =
     let d = c.fetch_add-ticket.ensures in
     let w = c.await_turn.ensures.turn in
     let x = c.exchange.ensures in
-    (turn_begins g.V.Kind.EntryKind.made_by k.history k.side k.origin k.is_still c.args.pass.now _ _ c.take-seat.result.me.0 _ _ _ d.2.0 w.0 c.in-Some.value c.of.result t.pass t.caller d.2.2 (ap (λ m. m.0) w.1) w.2 (ap (λ m. m.0) x.3)
+    (turn_begins g.V.Entry.HistoryEntry.made_by k.history k.side k.origin g.V.Entry.HistoryEntry.is_still c.args.pass.now _ _ c.take-seat.result.me.0 _ _ _ d.2.0 w.0 c.in-Some.value c.of.result t.pass t.caller d.2.2 (ap (λ m. m.0) w.1) w.2 (ap (λ m. m.0) x.3)
     (slot_value w.0 c.in-Some.value c.await_turn.new.seat.me.1 c.exchange.result _ (ap (λ m. m.1) w.1) x.2 c.in-Some.is) (x.0 ∙ c.await_turn.ensures.book ∙ d.0) c.of.ensures).1
 
 pub returns-clause-value : goal.returns-clause-value
@@ -43,5 +43,5 @@ returns-clause-value g c =
     let d = c.fetch_add-ticket.ensures in
     let w = c.await_turn.ensures.turn in
     let x = c.exchange.ensures in
-    (turn_begins g.V.Kind.EntryKind.made_by k.history k.side k.origin k.is_still c.args.pass.now _ _ c.take-seat.result.me.0 _ _ _ d.2.0 w.0 c.in-Some.value c.of.result t.pass t.caller d.2.2 (ap (λ m. m.0) w.1) w.2 (ap (λ m. m.0) x.3)
+    (turn_begins g.V.Entry.HistoryEntry.made_by k.history k.side k.origin g.V.Entry.HistoryEntry.is_still c.args.pass.now _ _ c.take-seat.result.me.0 _ _ _ d.2.0 w.0 c.in-Some.value c.of.result t.pass t.caller d.2.2 (ap (λ m. m.0) w.1) w.2 (ap (λ m. m.0) x.3)
     (slot_value w.0 c.in-Some.value c.await_turn.new.seat.me.1 c.exchange.result _ (ap (λ m. m.1) w.1) x.2 c.in-Some.is) (x.0 ∙ c.await_turn.ensures.book ∙ d.0) c.of.ensures).2

@@ -6,26 +6,26 @@ use Rattle.chv_book.proofs.book.Book.close.Goals as goal
 pub unreachable-requires : goal.unreachable-requires
 unreachable-requires g c =
     let s = c.into_seat-seat.ensures in
-    let last = closes g.V.Kind.EntryKind.made_by g.V.Kept.history g.V.Kept.side g.V.Kept.origin g.V.Kept.is_still _ c.into_seat-seat.result.me.0 _ _ s.idle (s.caller ∙ c.requires.first) (ap (λ p. p.out) (sym s.pass) ∙ c.requires.alone) c.close_with-closed.ensures.values.2 in
+    let last = closes g.V.Entry.HistoryEntry.made_by g.V.Kept.history g.V.Kept.side g.V.Kept.origin g.V.Entry.HistoryEntry.is_still _ c.into_seat-seat.result.me.0 _ _ s.idle (s.caller ∙ c.requires.first) (ap (λ p. p.out) (sym s.pass) ∙ c.requires.alone) c.close_with-closed.ensures.values.2 in
     not_none last.0 (sym c.in_default.is ∙ some-injective _ _ (sym c.take-value.ensures.value ∙ last.1))
 
 pub returns-clause-history : goal.returns-clause-history
 returns-clause-history g c =
     let s = c.into_seat-seat.ensures in
-    let last = closes g.V.Kind.EntryKind.made_by g.V.Kept.history g.V.Kept.side g.V.Kept.origin g.V.Kept.is_still _ c.into_seat-seat.result.me.0 _ _ s.idle (s.caller ∙ c.requires.first) (ap (λ p. p.out) (sym s.pass) ∙ c.requires.alone) c.close_with-closed.ensures.values.2 in
+    let last = closes g.V.Entry.HistoryEntry.made_by g.V.Kept.history g.V.Kept.side g.V.Kept.origin g.V.Entry.HistoryEntry.is_still _ c.into_seat-seat.result.me.0 _ _ s.idle (s.caller ∙ c.requires.first) (ap (λ p. p.out) (sym s.pass) ∙ c.requires.alone) c.close_with-closed.ensures.values.2 in
     let is = same_value c.in-Some.value last.0 (sym c.in-Some.is ∙ some-injective _ _ (sym c.take-value.ensures.value ∙ last.1)) in
     ap g.V.Kept.history is ∙ last.2 ∙ ap (λ p. p.seen) (sym s.pass)
 
 pub returns-clause-side : goal.returns-clause-side
 returns-clause-side g c =
     let s = c.into_seat-seat.ensures in
-    let last = closes g.V.Kind.EntryKind.made_by g.V.Kept.history g.V.Kept.side g.V.Kept.origin g.V.Kept.is_still _ c.into_seat-seat.result.me.0 _ _ s.idle (s.caller ∙ c.requires.first) (ap (λ p. p.out) (sym s.pass) ∙ c.requires.alone) c.close_with-closed.ensures.values.2 in
+    let last = closes g.V.Entry.HistoryEntry.made_by g.V.Kept.history g.V.Kept.side g.V.Kept.origin g.V.Entry.HistoryEntry.is_still _ c.into_seat-seat.result.me.0 _ _ s.idle (s.caller ∙ c.requires.first) (ap (λ p. p.out) (sym s.pass) ∙ c.requires.alone) c.close_with-closed.ensures.values.2 in
     let is = same_value c.in-Some.value last.0 (sym c.in-Some.is ∙ some-injective _ _ (sym c.take-value.ensures.value ∙ last.1)) in
     ap g.V.Kept.side is ∙ last.3 ∙ ap (λ p. p.side) (sym s.pass)
 
 pub returns-clause-origin : goal.returns-clause-origin
 returns-clause-origin g c =
     let s = c.into_seat-seat.ensures in
-    let last = closes g.V.Kind.EntryKind.made_by g.V.Kept.history g.V.Kept.side g.V.Kept.origin g.V.Kept.is_still _ c.into_seat-seat.result.me.0 _ _ s.idle (s.caller ∙ c.requires.first) (ap (λ p. p.out) (sym s.pass) ∙ c.requires.alone) c.close_with-closed.ensures.values.2 in
+    let last = closes g.V.Entry.HistoryEntry.made_by g.V.Kept.history g.V.Kept.side g.V.Kept.origin g.V.Entry.HistoryEntry.is_still _ c.into_seat-seat.result.me.0 _ _ s.idle (s.caller ∙ c.requires.first) (ap (λ p. p.out) (sym s.pass) ∙ c.requires.alone) c.close_with-closed.ensures.values.2 in
     let is = same_value c.in-Some.value last.0 (sym c.in-Some.is ∙ some-injective _ _ (sym c.take-value.ensures.value ∙ last.1)) in
     ap (λ y. Some (g.V.Kept.origin y)) is ∙ sym (ap (λ p. p.origin) s.pass ∙ last.4)

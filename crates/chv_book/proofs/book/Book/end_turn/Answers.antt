@@ -19,9 +19,9 @@ fetch_add-requires g c =
     let v = c.into_parts-value.result.0 in (
       search rules,
       search rules,
-      pass g.V.Kind.EntryKind.made_by k.history k.side k.origin k.is_still _ _ c.exchange.new.seat.me v
+      pass g.V.Entry.HistoryEntry.made_by k.history k.side k.origin g.V.Entry.HistoryEntry.is_still _ _ c.exchange.new.seat.me v
           (ap (λ m. m.0.stage) put ∙ t.serves)
           (ap (λ m. m.1) put ∙ ap (λ l. (0, Some v) ∷ l) (ap rest t.empty))
-          (subst (λ w. MayPass g.V.Kind.EntryKind.made_by k.history k.side k.origin k.is_still w v) (sym (ap (λ m. m.0) put))
-          (may_pass g.V.Kind.EntryKind.made_by k.history k.side k.origin k.is_still c.args.turn _ c.into_parts-value.result.1.me.0 v t.turn r.own.0 r.own.1 r.own.2 r.origin r.may)),
+          (subst (λ w. MayPass g.V.Entry.HistoryEntry.made_by k.history k.side k.origin g.V.Entry.HistoryEntry.is_still w v) (sym (ap (λ m. m.0) put))
+          (may_pass g.V.Entry.HistoryEntry.made_by k.history k.side k.origin g.V.Entry.HistoryEntry.is_still c.args.turn _ c.into_parts-value.result.1.me.0 v t.turn r.own.0 r.own.1 r.own.2 r.origin r.may)),
     )

@@ -7,13 +7,13 @@ use Rattle.chv_book.proofs.book.Book.new.Goals as goal
 pub vacant-requires : goal.vacant-requires
 vacant-requires g c =
     let k = g.V.Kept in
-    begins g.V.Kind.EntryKind.made_by k.history k.side k.origin k.is_still _ (record { count = refl; drawn_is = refl; served_is = refl })
+    begins g.V.Entry.HistoryEntry.made_by k.history k.side k.origin g.V.Entry.HistoryEntry.is_still _ (record { count = refl; drawn_is = refl; served_is = refl })
 
 pub compare_exchange_with-requires : goal.compare_exchange_with-requires
 compare_exchange_with-requires g c =
     let k = g.V.Kept in
     let me = c.in-Ok.ensures.4 in
-    (search rules, search rules, open_book g.V.Kind.EntryKind.made_by k.history k.side k.origin k.is_still _ _ c.in-Ok.made.1.me c.args.value _ refl (ap (λ m. m.0) me) (ap (λ m. m.1) me))
+    (search rules, search rules, open_book g.V.Entry.HistoryEntry.made_by k.history k.side k.origin g.V.Entry.HistoryEntry.is_still _ _ c.in-Ok.made.1.me c.args.value _ refl (ap (λ m. m.0) me) (ap (λ m. m.1) me))
 
 pub exchange-requires : goal.exchange-requires
 exchange-requires g c =
@@ -33,10 +33,10 @@ fetch_add-requires g c =
     let v = c.args.value in (
       search rules,
       search rules,
-      pass g.V.Kind.EntryKind.made_by k.history k.side k.origin k.is_still _ _ c.exchange.new.seat.me v
+      pass g.V.Entry.HistoryEntry.made_by k.history k.side k.origin g.V.Entry.HistoryEntry.is_still _ _ c.exchange.new.seat.me v
           (ap (λ m. m.0.stage) put ∙ ap (λ w. w.stage) did.0)
           (ap (λ m. m.1) put ∙ ap (λ l. (0, Some v) ∷ l) (ap rest did.1))
-          (subst (λ w. MayPass g.V.Kind.EntryKind.made_by k.history k.side k.origin k.is_still w v) (sym (ap (λ m. m.0) put ∙ did.0))
+          (subst (λ w. MayPass g.V.Entry.HistoryEntry.made_by k.history k.side k.origin g.V.Entry.HistoryEntry.is_still w v) (sym (ap (λ m. m.0) put ∙ did.0))
           (record { added = []; longer_by = c.requires; by_own = λ _ _. refl; source_is = refl; side_is = λ _. refl; quiet = λ _ _. refl })),
     )
 

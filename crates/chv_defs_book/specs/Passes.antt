@@ -1,7 +1,7 @@
 -- What contracts see of a pass and of a turn, and what the calls on a book come to. They speak of histories alone.
 use Rattle.std.specs.Prelude.{◌≡◌, ◌≢◌, ℕ, Bool, true, false, List, [], ◌∷◌, ◌++◌, Option, Some, None}
 use Rattle.atomic_table.specs.Seated.{TableId}
-use Rattle.chv_book.specs.Histories.{entries_by, longer, without, AreOfOthers, AreOut}
+use Rattle.chv_defs_book.specs.Histories.{entries_by, longer, without, AreOfOthers, AreOut}
 
 -- A pass: of which book and whose it is, whether it is free to take a turn, what it has seen of the history, and the value's
 -- origin. The first pass, caller 0's, knows the side with which it left the value and the numbers that are out. A pass that has

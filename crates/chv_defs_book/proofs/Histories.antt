@@ -3,8 +3,8 @@ use Rattle.std.proofs.Common.{◌≡◌, ◌≢◌, ◌⊎◌, ℕ, suc, ◌+◌
 use Rattle.std.specs.List.{list_all}
 use Rattle.std.proofs.lemmas.List.{nil_from_length}
 use Rattle.std.proofs.lemmas.List.Elements.{filter-append}
-use Rattle.chv_book.specs.Histories.{entries_by, is_out, longer, without, AreOfOthers, AreOut, StartsWith}
-use Rattle.chv_book.specs.Passes.{Begins, Joins, PassView}
+use Rattle.chv_defs_book.specs.Histories.{entries_by, is_out, longer, without, AreOfOthers, AreOut, StartsWith}
+use Rattle.chv_defs_book.specs.Passes.{Begins, Joins, PassView}
 
 pub bool_cases : (b : Bool) → (b ≡ true) ⊎ (b ≡ false)
 bool_cases true = inl refl
