@@ -11,7 +11,7 @@ use Rattle.chv_book.specs.declared.view.View.{View}
 use Rattle.chv_book.specs.declared.view.Stage.{Stage}
 use Rattle.chv_book.specs.declared.view.Stage.TheVariants.{Opening, Idle, Waits, Serves, Joined, Spent}
 use Rattle.chv_defs_book.specs.Histories.{StartsWith, entries_by, is_out}
-use Rattle.chv_book.specs.TicketRule.{is_live, has_ticket, opening, Board, Lives, HasTicket, Fits, Runs, GoesInTurns}
+use Rattle.chv_book.specs.TicketRule.{is_live, has_ticket, opening, Board, Lives, Fits, Runs, GoesInTurns}
 use Rattle.chv_defs_book.proofs.Histories.{starts_trans}
 use Rattle.chv_book.proofs.FewTickets.{no_more_than}
 
@@ -88,14 +88,6 @@ module _ {V E O : Type 0} (by : E → ℕ) where
   lives_at b homes seat v Serves fits live = fits.0
   lives_at b homes seat v Joined fits live = fits.0
   lives_at b homes seat v Spent fits live = off false live refl
-
-  pub ticket_at : (b : Board E O) (homes : List (maybe.Option (Option V))) (seat : ℕ) (v : View E O) (st : Stage) → Fits by b homes seat v st → has_ticket st ≡ true → HasTicket by b seat v
-  ticket_at b homes seat v Opening fits has = absurd fits
-  ticket_at b homes seat v Idle fits has = off false has refl
-  ticket_at b homes seat v Waits fits has = fits.1
-  ticket_at b homes seat v Serves fits has = fits.1
-  ticket_at b homes seat v Joined fits has = off false has refl
-  ticket_at b homes seat v Spent fits has = off false has refl
 
 pub ticket_lives : (st : Stage) → has_ticket st ≡ true → is_live st ≡ true
 ticket_lives Opening has = off false has refl

@@ -54,26 +54,17 @@ module _ {V E O : Type 0} (by : E → ℕ) where
       go Spent out f = tt
 
 module _ {V E O : Type 0} (by : E → ℕ) (history : V → List E) (side : V → ℕ × ℕ) (origin : V → O) (is_still : List E → Bool) where
-  abbrev W : Type 0
-  W = View E O
-
-  abbrev St : Type 0
-  St = State (Option V) W
-
-  abbrev Seated : Type 0
-  Seated = Me (Option V) W
-
-  abbrev R : St → Type 0
+  abbrev R : State (Option V) (View E O) → Type 0
   R = Runs by history side origin is_still
 
-  abbrev K : St → Type 0
+  abbrev K : State (Option V) (View E O) → Type 0
   K = GoesInTurns by history side origin is_still
 
-  slot_draw : (b b' : Board E O) (homes : List (maybe.Option (Option V))) (views : List W) (id : ℕ) (v w : W) → get_elem? views id ≡ some v → v.stage ≢ Serves
+  slot_draw : (b b' : Board E O) (homes : List (maybe.Option (Option V))) (views : List (View E O)) (id : ℕ) (v w : View E O) → get_elem? views id ≡ some v → v.stage ≢ Serves
       → b'.log ≡ b.log → b'.source ≡ b.source → b'.first.side ≡ b.first.side → SlotFits by history side origin is_still b homes views → SlotFits by history side origin is_still b' homes (set views id w)
   slot_draw b b' homes views id v w at not log src sd fits = ⊎_elim
-      (λ (o : (seat : ℕ) × (u : W) × (get_elem? views seat ≡ some u) × (u.stage ≡ Serves)).
-      inl (o.0, o.1, set_else views id o.0 w (λ is. not (ap (λ (z : W). z.stage) (some-injective _ _ (sym at ∙ ap (λ (n : ℕ). get_elem? views n) (sym is) ∙ o.2)) ∙ o.3)) ∙ o.2, o.3))
+      (λ (o : (seat : ℕ) × (u : View E O) × (get_elem? views seat ≡ some u) × (u.stage ≡ Serves)).
+      inl (o.0, o.1, set_else views id o.0 w (λ is. not (ap (λ (z : View E O). z.stage) (some-injective _ _ (sym at ∙ ap (λ (n : ℕ). get_elem? views n) (sym is) ∙ o.2)) ∙ o.3)) ∙ o.2, o.3))
       (λ (i : (y : V) × (homes ≡ some (Some y) ∷ []) × (history y ≡ b.log) × (side y ≡ b.first.side) × (origin y ≡ b.source)).
       inr (i.0, i.1, i.2 ∙ sym log, i.3 ∙ sym sd, i.4 ∙ sym src))
       fits
@@ -92,22 +83,22 @@ module _ {V E O : Type 0} (by : E → ℕ) (history : V → List E) (side : V �
       is_waits Joined = false
       is_waits Spent = false
 
-  drawn_runs : (s : St) (r : R s) (id : ℕ) (v : W) → get_elem? s.views id ≡ some v → v.stage ≡ Idle
+  drawn_runs : (s : State (Option V) (View E O)) (r : R s) (id : ℕ) (v : View E O) → get_elem? s.views id ≡ some v → v.stage ≡ Idle
       → R record { words = set s.words 0 ((get_or s.words 0 0 + 1) % 2 ^ 64); homes = s.homes; views = set s.views id (waiting r.board.drawn v) }
   drawn_runs s r id v at idle =
       let b = r.board in
-      let w : W = waiting b.drawn v in
+      let w : View E O = waiting b.drawn v in
       let n : Next s.views b.first id v w = next_of s.views b.first id v w r.first_is at in
       let live : is_live v.stage ≡ true = live_at v Idle idle refl in
       let l : Lives by b id v = lives_at by b s.homes id v v.stage (r.each id v at) live in
       let b' : Board E O = record { log = b.log; source = b.source; served = b.served; drawn = b.drawn + 1; holder = put b.holder b.drawn id; first = n.next } in
-      let out = next_same (λ (u : W). u.out) s.views b.first id v w n refl in
-      let sd = next_same (λ (u : W). u.side) s.views b.first id v w n refl in
-      let seen = next_same (λ (u : W). u.seen) s.views b.first id v w n refl in
-      let num = next_same (λ (u : W). u.caller) s.views b.first id v w n refl in
+      let out = next_same (λ (u : View E O). u.out) s.views b.first id v w n refl in
+      let sd = next_same (λ (u : View E O). u.side) s.views b.first id v w n refl in
+      let seen = next_same (λ (u : View E O). u.seen) s.views b.first id v w n refl in
+      let num = next_same (λ (u : View E O). u.caller) s.views b.first id v w n refl in
       let le : b.served ≤ b.drawn = r.behind in
       let l' : Lives by b' id w = record { below = l.below; front = l.front; own = l.own; source_is = l.source_is; listed = λ ne. let p = l.listed ne in (p.0, ap (is_out v.caller) out ∙ p.1) } in
-      let first_live : is_live n.next.stage ≡ true = ⊎_elim (λ (x : (id ≡ 0) × (n.next ≡ w) × (b.first ≡ v)). ap (λ (u : W). is_live u.stage) x.1) (λ (x : (id ≢ 0) × (n.next ≡ b.first)). ap (λ (u : W). is_live u.stage) x.1 ∙ r.first_lives) n.how in
+      let first_live : is_live n.next.stage ≡ true = ⊎_elim (λ (x : (id ≡ 0) × (n.next ≡ w) × (b.first ≡ v)). ap (λ (u : View E O). is_live u.stage) x.1) (λ (x : (id ≢ 0) × (n.next ≡ b.first)). ap (λ (u : View E O). is_live u.stage) x.1 ∙ r.first_lives) n.how in
       record {
         board = b';
         words_tell = one_drawn b.drawn b.served s.words r.words_tell;
@@ -121,7 +112,7 @@ module _ {V E O : Type 0} (by : E → ℕ) (history : V → List E) (side : V �
         held = λ t from lt. dite (ℕ_discrete t b.drawn)
             (λ is. (w, subst (λ (k : ℕ). get_elem? (set s.views id w) k ≡ some w) (sym (put_here b.holder b.drawn id t is)) (set_here s.views id w (len_at s.views id v at)), refl, sym is))
             (λ ne. let h = r.held t from (omega arith) in
-            let apart : b.holder t ≢ id = λ is. off (has_ticket h.0.stage) h.2 (ap (λ (u : W). has_ticket u.stage) (some-injective _ _ (sym h.1 ∙ ap (λ (k : ℕ). get_elem? s.views k) is ∙ at)) ∙ ap has_ticket idle) in
+            let apart : b.holder t ≢ id = λ is. off (has_ticket h.0.stage) h.2 (ap (λ (u : View E O). has_ticket u.stage) (some-injective _ _ (sym h.1 ∙ ap (λ (k : ℕ). get_elem? s.views k) is ∙ at)) ∙ ap has_ticket idle) in
             (h.0, ap (λ (k : ℕ). get_elem? (set s.views id w) k) (put_else b.holder b.drawn id t ne) ∙ set_else s.views id (b.holder t) w apart ∙ h.1, h.2, h.3));
         alone = alone_set s.views id v w at r.alone live refl;
         kept = λ m e. r.kept m (ap (is_out m) (sym out) ∙ e) ∙ ap (entries_by by m) (sym seen);
@@ -130,30 +121,30 @@ module _ {V E O : Type 0} (by : E → ℕ) (history : V → List E) (side : V �
       }
 
   -- a ticket is drawn
-  pub draw : (slots id : ℕ) (me : Seated) → me.0.stage ≡ Idle → me.1 ≡ [] → Allows K slots id me 0 (λ n. (n + 1) % 2 ^ 64) (draws (step slots 0 1 0 maybe.none) me)
+  pub draw : (slots id : ℕ) (me : Me (Option V) (View E O)) → me.0.stage ≡ Idle → me.1 ≡ [] → Allows K slots id me 0 (λ n. (n + 1) % 2 ^ 64) (draws (step slots 0 1 0 maybe.none) me)
   draw slots id me idle empty s kept long at lt =
       let r : R s = running by history side origin is_still s kept id me.0 at (live_at me.0 Idle idle refl) in
       (waiting r.board.drawn me.0, keeps, tt, inr (drawn_runs s r id me.0 at idle), (r.board.drawn, r.words_tell.drawn_is, refl, empty))
 
-  looked_runs : (s : St) (r : R s) (id : ℕ) (v : W) → get_elem? s.views id ≡ some v → v.stage ≡ Waits → v.ticket ≡ r.board.served
+  looked_runs : (s : State (Option V) (View E O)) (r : R s) (id : ℕ) (v : View E O) → get_elem? s.views id ≡ some v → v.stage ≡ Waits → v.ticket ≡ r.board.served
       → (y : V) → s.homes ≡ some (Some y) ∷ [] → history y ≡ r.board.log → side y ≡ r.board.first.side
       → R record { words = set s.words 16 (get_or s.words 16 0); homes = set s.homes 0 maybe.none; views = set s.views id (serving (history y) (side y) v) }
   looked_runs s r id v at waits now y home h sd_is =
       let b = r.board in
-      let w : W = serving (history y) (side y) v in
+      let w : View E O = serving (history y) (side y) v in
       let n : Next s.views b.first id v w = next_of s.views b.first id v w r.first_is at in
       let live : is_live v.stage ≡ true = live_at v Waits waits refl in
       let fits : Fits by b s.homes id v Waits = subst (λ (st : Stage). Fits by b s.homes id v st) waits (r.each id v at) in
       let l = fits.0 in
       let t = fits.1 in
       let b' : Board E O = record { log = b.log; source = b.source; served = b.served; drawn = b.drawn; holder = b.holder; first = n.next } in
-      let out = next_same (λ (u : W). u.out) s.views b.first id v w n refl in
-      let sd = next_same (λ (u : W). u.side) s.views b.first id v w n refl in
-      let seen = next_same (λ (u : W). u.seen) s.views b.first id v w n refl in
-      let num = next_same (λ (u : W). u.caller) s.views b.first id v w n refl in
+      let out = next_same (λ (u : View E O). u.out) s.views b.first id v w n refl in
+      let sd = next_same (λ (u : View E O). u.side) s.views b.first id v w n refl in
+      let seen = next_same (λ (u : View E O). u.seen) s.views b.first id v w n refl in
+      let num = next_same (λ (u : View E O). u.caller) s.views b.first id v w n refl in
       let gone : set s.homes 0 maybe.none ≡ maybe.none ∷ [] = ap (λ (hs : List (maybe.Option (Option V))). set hs 0 maybe.none) home in
       let l' : Lives by b' id w = record { below = l.below; front = l.front; own = l.own; source_is = l.source_is; listed = λ ne. let p = l.listed ne in (p.0, ap (is_out v.caller) out ∙ p.1) } in
-      let first_live : is_live n.next.stage ≡ true = ⊎_elim (λ (x : (id ≡ 0) × (n.next ≡ w) × (b.first ≡ v)). ap (λ (u : W). is_live u.stage) x.1) (λ (x : (id ≢ 0) × (n.next ≡ b.first)). ap (λ (u : W). is_live u.stage) x.1 ∙ r.first_lives) n.how in
+      let first_live : is_live n.next.stage ≡ true = ⊎_elim (λ (x : (id ≡ 0) × (n.next ≡ w) × (b.first ≡ v)). ap (λ (u : View E O). is_live u.stage) x.1) (λ (x : (id ≢ 0) × (n.next ≡ b.first)). ap (λ (u : View E O). is_live u.stage) x.1 ∙ r.first_lives) n.how in
       record {
         board = b';
         words_tell = looked_at b.drawn b.served s.words r.words_tell 16;
@@ -166,7 +157,7 @@ module _ {V E O : Type 0} (by : E → ℕ) (history : V → List E) (side : V �
             (λ j u ne e. others_stay by b b' s.homes (set s.homes 0 maybe.none) j u refl refl refl (le_refl b.drawn) sd (λ _ _. refl) (λ _. gone) u.stage (λ _ k. ap (is_out u.caller) out ∙ k) (r.each j u e));
         held = λ m from lt. let k = r.held m from lt in dite (ℕ_discrete (b.holder m) id)
             (λ is. let same : k.0 ≡ v = some-injective _ _ (sym k.1 ∙ ap (λ (q : ℕ). get_elem? s.views q) is ∙ at) in
-            (w, subst (λ (q : ℕ). get_elem? (set s.views id w) q ≡ some w) (sym is) (set_here s.views id w (len_at s.views id v at)), refl, sym (ap (λ (u : W). u.ticket) same) ∙ k.3))
+            (w, subst (λ (q : ℕ). get_elem? (set s.views id w) q ≡ some w) (sym is) (set_here s.views id w (len_at s.views id v at)), refl, sym (ap (λ (u : View E O). u.ticket) same) ∙ k.3))
             (λ ne. (k.0, set_else s.views id (b.holder m) w ne ∙ k.1, k.2, k.3));
         alone = alone_set s.views id v w at r.alone live refl;
         kept = λ m e. r.kept m (ap (is_out m) (sym out) ∙ e) ∙ ap (entries_by by m) (sym seen);
@@ -175,7 +166,7 @@ module _ {V E O : Type 0} (by : E → ℕ) (history : V → List E) (side : V �
       }
 
   -- what the view may conclude of the value
-  begun : (s : St) (r : R s) (id : ℕ) (v : W) → get_elem? s.views id ≡ some v → is_live v.stage ≡ true → (y : V) → history y ≡ r.board.log → side y ≡ r.board.first.side → origin y ≡ r.board.source → Begun by history side origin is_still v y
+  begun : (s : State (Option V) (View E O)) (r : R s) (id : ℕ) (v : View E O) → get_elem? s.views id ≡ some v → is_live v.stage ≡ true → (y : V) → history y ≡ r.board.log → side y ≡ r.board.first.side → origin y ≡ r.board.source → Begun by history side origin is_still v y
   begun s r id v at live y h sd src =
       let b = r.board in
       let l = lives_at by b s.homes id v v.stage (r.each id v at) live in
@@ -185,22 +176,22 @@ module _ {V E O : Type 0} (by : E → ℕ) (history : V → List E) (side : V �
         own = ap (entries_by by v.caller) h ∙ l.own;
         source_is = l.source_is ∙ ap Some (sym src);
         moving = λ ne.
-            let away : id ≢ 0 = λ z. ne (ap (λ (u : W). u.caller) (some-injective _ _ (sym at ∙ ap (λ (k : ℕ). get_elem? s.views k) z ∙ r.first_is)) ∙ r.first_caller) in
+            let away : id ≢ 0 = λ z. ne (ap (λ (u : View E O). u.caller) (some-injective _ _ (sym at ∙ ap (λ (k : ℕ). get_elem? s.views k) z ∙ r.first_is)) ∙ r.first_caller) in
             let p = l.listed away in
             ⊎_elim
             (λ (q : is_still (entries_by by 0 (history y)) ≡ true).
             off (is_out v.caller b.first.out) p.1 (ap (is_out v.caller) (r.quiet (ap (λ (z : List E). is_still (entries_by by 0 z)) (sym h) ∙ q))))
             (λ (f : is_still (entries_by by 0 (history y)) ≡ false). f)
             (bool_cases (is_still (entries_by by 0 (history y))));
-        side_is = λ z. sd ∙ sym (ap (λ (u : W). u.side) (is_first z));
-        kept = λ z m e. ap (entries_by by m) h ∙ r.kept m (ap (λ (u : W). is_out m u.out) (sym (is_first z)) ∙ e) ∙ ap (λ (u : W). entries_by by m u.seen) (sym (is_first z));
-        quiet = λ z q. ap (λ (u : W). u.out) (is_first z) ∙ r.quiet (ap (λ (z : List E). is_still (entries_by by 0 z)) (sym h) ∙ q);
+        side_is = λ z. sd ∙ sym (ap (λ (u : View E O). u.side) (is_first z));
+        kept = λ z m e. ap (entries_by by m) h ∙ r.kept m (ap (λ (u : View E O). is_out m u.out) (sym (is_first z)) ∙ e) ∙ ap (λ (u : View E O). entries_by by m u.seen) (sym (is_first z));
+        quiet = λ z q. ap (λ (u : View E O). u.out) (is_first z) ∙ r.quiet (ap (λ (z : List E). is_still (entries_by by 0 z)) (sym h) ∙ q);
       }
 
   -- a look whether it is served
-  pub look : (slots id : ℕ) (me : Seated) → me.0.stage ≡ Waits → me.1 ≡ [] → Allows K slots id me 16 (λ n. n) (looks by history side origin is_still (step slots 16 0 0 maybe.none) me)
+  pub look : (slots id : ℕ) (me : Me (Option V) (View E O)) → me.0.stage ≡ Waits → me.1 ≡ [] → Allows K slots id me 16 (λ n. n) (looks by history side origin is_still (step slots 16 0 0 maybe.none) me)
   look slots id me waits empty s kept long at lt =
-      let v : W = me.0 in
+      let v : View E O = me.0 in
       let r : R s = running by history side origin is_still s kept id v at (live_at v Waits waits refl) in
       let b = r.board in
       let fits : Fits by b s.homes id v Waits = subst (λ (z : Stage). Fits by b s.homes id v z) waits (r.each id v at) in
@@ -209,10 +200,10 @@ module _ {V E O : Type 0} (by : E → ℕ) (history : V → List E) (side : V �
       dite (ℕ_discrete (get_or s.words 16 0) (v.ticket % 2 ^ 64))
       (λ hit. let now : v.ticket ≡ b.served = its_turn by history side origin is_still s r v.ticket t.from t.before (sym found ∙ hit) in
       ⊎_elim
-      (λ (o : (seat : ℕ) × (u : W) × (get_elem? s.views seat ≡ some u) × (u.stage ≡ Serves)).
+      (λ (o : (seat : ℕ) × (u : View E O) × (get_elem? s.views seat ≡ some u) × (u.stage ≡ Serves)).
       let f : Fits by b s.homes o.0 o.1 Serves = subst (λ (z : Stage). Fits by b s.homes o.0 o.1 z) o.3 (r.each o.0 o.1 o.2) in
       let same : o.0 ≡ id = sym f.1.held_by ∙ ap b.holder (f.2.now ∙ sym now) ∙ t.held_by in
-      absurd (waits_serves (sym waits ∙ ap (λ (u : W). u.stage) (some-injective _ _ (sym at ∙ ap (λ (k : ℕ). get_elem? s.views k) (sym same) ∙ o.2)) ∙ o.3)))
+      absurd (waits_serves (sym waits ∙ ap (λ (u : View E O). u.stage) (some-injective _ _ (sym at ∙ ap (λ (k : ℕ). get_elem? s.views k) (sym same) ∙ o.2)) ∙ o.3)))
       (λ (i : (y : V) × (s.homes ≡ some (Some y) ∷ []) × (history y ≡ b.log) × (side y ≡ b.first.side) × (origin y ≡ b.source)).
       let y : V = i.0 in (
         serving (history y) (side y) v,
@@ -224,5 +215,5 @@ module _ {V E O : Type 0} (by : E → ℕ) (history : V → List E) (side : V �
       r.slot)
       (λ miss. (v, keeps, tt, unchanged s kept id v at, ((λ hit. absurd (miss hit)), (λ _. (refl, empty)))))
     where
-      unchanged : (s : St) → K s → (id : ℕ) (v : W) → get_elem? s.views id ≡ some v → K record { words = set s.words 16 (get_or s.words 16 0); homes = s.homes; views = set s.views id v }
-      unchanged s k id v at = subst (λ (z : List ℕ × List W). K record { words = z.0; homes = s.homes; views = z.1 }) (λ i. (sym (set-get_or s.words 16 0) i, sym (set_again s.views id v at) i)) k
+      unchanged : (s : State (Option V) (View E O)) → K s → (id : ℕ) (v : View E O) → get_elem? s.views id ≡ some v → K record { words = set s.words 16 (get_or s.words 16 0); homes = s.homes; views = set s.views id v }
+      unchanged s k id v at = subst (λ (z : List ℕ × List (View E O)). K record { words = z.0; homes = s.homes; views = z.1 }) (λ i. (sym (set-get_or s.words 16 0) i, sym (set_again s.views id v at) i)) k

@@ -1,21 +1,13 @@
 -- What a seat's view comes to, as a pass or a turn tells it.
-use Rattle.std.proofs.Common.{◌≡◌, ◌≢◌, ◌⊎◌, ℕ, List, [], ◌∷◌, ◌++◌, length, Option, Some, None, Bool, true≢false, sym, ap, ◌∙◌, subst, subst₂, ⊎_elim}
+use Rattle.std.proofs.Common.{◌≡◌, ◌≢◌, ℕ, List, [], ◌∷◌, ◌++◌, Option, Some, None, Bool, sym, ap, ◌∙◌, subst, subst₂}
 use Rattle.atomic_table.specs.Seated.{TableId}
 use Rattle.chv_book.specs.declared.view.View.{View}
 use Rattle.chv_defs_book.specs.Histories.{entries_by}
-use Rattle.chv_defs_book.specs.Passes.{turn_of, Begins, IsFree, MayEnd, PassView, TurnView}
-use Rattle.chv_book.specs.PassSeats.{held, pass_of, rested, Rests}
+use Rattle.chv_defs_book.specs.Passes.{turn_of, Begins, MayEnd, PassView, TurnView}
+use Rattle.chv_book.specs.PassSeats.{held, rested}
 use Rattle.chv_book.specs.TicketRule.{serving, waiting}
 use Rattle.chv_book.specs.TicketSteps.{Begun, MayPass}
 use Rattle.chv_defs_book.proofs.Histories.{others_new, out_new}
-
-module _ {E O : Type 0} where
-  -- a free pass has seen as many entries as it says
-  pub count_seen : (z : TableId) (caller count : ℕ) (vs : List (View E O)) → ((vs ≡ []) ⊎ ((v : View E O) × (vs ≡ v ∷ []) × Rests caller count v)) → IsFree (pass_of z caller vs) → count ≡ length (pass_of z caller vs).seen
-  count_seen z caller count vs kept free = ⊎_elim
-      (λ (none : vs ≡ []). absurd (true≢false (sym free ∙ ap (λ (us : List (View E O)). (pass_of z caller us).free) none)))
-      (λ (one : (v : View E O) × (vs ≡ v ∷ []) × Rests caller count v). sym one.2.count_is ∙ ap (λ (us : List (View E O)). length (pass_of z caller us).seen) (sym one.1))
-      kept
 
 module _ {V E O : Type 0} (by : E → ℕ) (history : V → List E) (side : V → ℕ × ℕ) (origin : V → O) (is_still : List E → Bool) where
   -- what a turn begins with

@@ -43,8 +43,8 @@ impl<V: Kept> Model for Book<V> {
 impl<V: Kept> Book<V> {
     ghost use Rattle.std.specs.Prelude.{◌≡◌, ◌≢◌, ℕ, List, [], ◌∷◌, ◌++◌, ◌<◌, ◌%◌, ◌^◌, IfOk, IfErr, false, Some};
     ghost use Rattle.chv_book.specs.declared.view.Stage.TheVariants.{Waits};
-    ghost use Rattle.chv_defs_book.specs.Histories.{entries_by, is_out};
-    ghost use Rattle.chv_defs_book.specs.Passes.{behind, first_pass, in_turn, split_off, taken_back, turn_of, with_out, Appends, Begins, IsFirst, IsFree, Joins, MayEnd};
+    ghost use Rattle.chv_defs_book.specs.Histories.{entries_by};
+    ghost use Rattle.chv_defs_book.specs.Passes.{behind, first_pass, in_turn, split_off, taken_back, turn_of, with_out, Appends, Begins, IsFirst, IsFree, Joins, MayEnd, MaySplit};
     ghost use Rattle.chv_book.specs.TicketRule.{serving};
     ghost use Rattle.chv_book.specs.TicketSteps.{Begun};
 
@@ -158,11 +158,7 @@ impl<V: Kept> Book<V> {
     fn split_as<N: Number>(&self, first: &mut Pass<V::Entry>, caller: u32) -> Pass<V::Entry>
         requires number { caller ≡ N.number }
         requires book { first.old.book ≡ self.now }
-        requires free { IsFree first.old }
-        requires first { IsFirst first.old }
-        requires caller { 0 < caller }
-        requires home { is_out caller first.old.out ≡ false }
-        requires moving { V.Entry.is_still (entries_by V.Entry.made_by 0 first.old.seen) ≡ false }
+        requires may { MaySplit V.Entry.made_by V.Entry.is_still caller first.old }
         ensures first { first.new ≡ with_out caller first.old }
         ensures pass { result ≡ split_off caller first.old }
     {
@@ -177,11 +173,7 @@ impl<V: Kept> Book<V> {
     /// earlier passes of its number made.
     pub fn split(&self, first: &mut Pass<V::Entry>, caller: u32) -> Pass<V::Entry>
         requires book { first.old.book ≡ self.now }
-        requires free { IsFree first.old }
-        requires first { IsFirst first.old }
-        requires caller { 0 < caller }
-        requires home { is_out caller first.old.out ≡ false }
-        requires moving { V.Entry.is_still (entries_by V.Entry.made_by 0 first.old.seen) ≡ false }
+        requires may { MaySplit V.Entry.made_by V.Entry.is_still caller first.old }
         ensures first { first.new ≡ with_out caller first.old }
         ensures pass { result ≡ split_off caller first.old }
     {

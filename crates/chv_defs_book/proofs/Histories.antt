@@ -75,9 +75,6 @@ module _ {E : Type 0} (by : E → ℕ) where
   pub entries_by-own : (n : ℕ) (e : E) → by e ≡ n → entries_by by n (e ∷ []) ≡ e ∷ []
   entries_by-own n e is = ap (λ (t : Bool). cond t (e ∷ []) []) (eq-eqb (by e) n is)
 
-  pub entries_by-other : (n : ℕ) (e : E) → by e ≢ n → entries_by by n (e ∷ []) ≡ []
-  entries_by-other n e ne = ap (λ (t : Bool). cond t (e ∷ []) []) (ne_eqb (by e) n ne)
-
   -- one entry of the caller more
   pub entries_by-push : (n : ℕ) (l : List E) (e : E) → by e ≡ n → entries_by by n (l ++ e ∷ []) ≡ entries_by by n l ++ e ∷ []
   entries_by-push n l e is = entries_by-append n l (e ∷ []) ∙ ap (λ (z : List E). entries_by by n l ++ z) (entries_by-own n e is)

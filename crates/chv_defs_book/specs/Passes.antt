@@ -1,7 +1,7 @@
 -- What contracts see of a pass and of a turn, and what the calls on a book come to. They speak of histories alone.
-use Rattle.std.specs.Prelude.{◌≡◌, ◌≢◌, ℕ, Bool, true, false, List, [], ◌∷◌, ◌++◌, Option, Some, None}
+use Rattle.std.specs.Prelude.{◌≡◌, ◌≢◌, ℕ, ◌<◌, Bool, true, false, List, [], ◌∷◌, ◌++◌, Option, Some, None}
 use Rattle.atomic_table.specs.Seated.{TableId}
-use Rattle.chv_defs_book.specs.Histories.{entries_by, longer, without, AreOfOthers, AreOut}
+use Rattle.chv_defs_book.specs.Histories.{entries_by, is_out, longer, without, AreOfOthers, AreOut}
 
 -- A pass: of which book and whose it is, whether it is free to take a turn, what it has seen of the history, and the value's
 -- origin. The first pass, caller 0's, knows the side with which it left the value and the numbers that are out. A pass that has
@@ -93,6 +93,15 @@ Appends {E} by caller noted history = (entry : E) × (by entry ≡ caller) × (h
 pub record MayEnd {V E O : Type 0} (by : E → ℕ) (is_still : List E → Bool) (turn : TurnView V E O) (history : List E) (side : ℕ × ℕ) : Type 0 where
   pub side_kept : turn.caller ≢ 0 → side ≡ turn.noted_side
   pub home : turn.caller ≡ 0 → is_still (entries_by by 0 history) ≡ true → turn.out ≡ []
+
+-- A pass for this number may be split off: by the first pass, while it has no turn, where the number is above 0 and not out,
+-- and the first pass has not left the value still.
+pub record MaySplit {E O : Type 0} (by : E → ℕ) (is_still : List E → Bool) (caller : ℕ) (first : PassView E O) : Type 0 where
+  pub free : IsFree first
+  pub is_first : IsFirst first
+  pub above : 0 < caller
+  pub home : is_out caller first.out ≡ false
+  pub moving : is_still (entries_by by 0 first.seen) ≡ false
 
 -- A history goes on from what the first pass has seen and from what another pass has. What is new to the first are entries of
 -- numbers that were out, and none of caller 0; what is new to the other is none of its own caller's.

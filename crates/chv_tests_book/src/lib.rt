@@ -1,7 +1,7 @@
 //! Callers that take turns at a book, and the tests of `chv_book`.
 //!
-//! `tally`: a kept value of the plainest kind. `turns`: a turn with an entry, and one that is left. `threads`: callers on threads
-//! of their own. `tests`: what comes out, compared.
+//! The module `tally` has a kept value of the plainest kind, `turns` a turn with an entry and one that is left, `threads` callers
+//! on threads of their own, and `tests` what comes out, compared.
 #![tactic(auto)]
 
 mod tally;

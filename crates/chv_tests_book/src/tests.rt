@@ -56,23 +56,45 @@ fn four_threads_enter_five_hundred_each(rt: HostRuntime) -> Result<(), Fail> {
     Ok(())
 }
 
+// Whether the value is there, unchanged, in the book or given back.
+fn is_kept(alloc: Global) -> bool {
+    let tally = match Book::new(alloc, Tally::new(alloc, 3)) {
+        Ok((book, first)) => book.close(first),
+        Err(given) => given,
+    };
+    tally.place == 3 && tally.entries.is_empty()
+}
+
+// `rt try --test --fail-alloc 1.. -- a_value_is_kept_or_comes_back` lets the book's memory be wanting.
+#[test]
+fn a_value_is_kept_or_comes_back(rt: HostRuntime) -> Result<(), Fail> {
+    assert!(rt; is_kept(rt.alloc()));
+    Ok(())
+}
+
 // What turns that are left find, and what the pass has seen behind each: before and behind an entry of its own.
-fn looks_around<R: Wait + Copy>(rt: R, alloc: Global) -> Option<([u64; 4], usize)> {
+fn looks_around<R: Wait + Copy>(rt: R, alloc: Global) -> Option<((u64, u64), (u64, u64), Tally)> {
     let Ok((book, mut first)) = Book::new(alloc, Tally::new(alloc, 3)) else {
         return None;
     };
     let none = look(rt, &book, &mut first);
-    let none_seen = first.seen();
+    let before = (none, first.seen());
     enter(rt, &book, &mut first, 11);
     let one = look(rt, &book, &mut first);
-    let one_seen = first.seen();
-    let tally = book.close(first);
-    Some(([none, none_seen, one, one_seen], tally.entries.len()))
+    let behind = (one, first.seen());
+    Some((before, behind, book.close(first)))
 }
 
 #[test]
 fn a_turn_that_is_left_changes_nothing(rt: HostRuntime) -> Result<(), Fail> {
-    assert!(rt; looks_around(&rt, rt.alloc()) == Some(([0, 0, 1, 1], 1)));
+    let alloc = rt.alloc();
+    let Some((before, behind, tally)) = looks_around(&rt, alloc) else {
+        return Err(Fail::new("no memory"));
+    };
+    assert_eq!(rt; before, (0, 0));
+    assert_eq!(rt; behind, (1, 1));
+    assert_eq!(rt; (tally.entries.len(), tally.place), (1, 3));
+    assert!(rt; entered_by(alloc, &tally, 0)? == numbers_from(alloc, 11, 1)?);
     Ok(())
 }
 

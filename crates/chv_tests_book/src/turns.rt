@@ -1,7 +1,7 @@
 // Turns at a tally.
 ghost use Rattle.std.specs.Prelude.{◌≡◌, ◌≢◌, ◌++◌, ◌∷◌, [], length, take, true, false};
 ghost use Rattle.chv_defs_book.specs.Histories.{entries_by, StartsWith};
-ghost use Rattle.chv_defs_book.specs.Passes.{IsFree};
+ghost use Rattle.chv_defs_book.specs.Passes.{IsFirst, IsFree};
 ghost use Rattle.chv_tests_book.specs.Entered.{caller_of, entered, HasEntered};
 
 use crate::tally::{Entered, Tally};
@@ -32,13 +32,14 @@ pub fn enter<R: Wait + Copy>(
     done
 }
 
-/// One turn that is left: how many entries there are.
+/// One turn that is left: how many entries there are. The first pass finds what it has seen where no number is out.
 pub fn look<R: Wait + Copy>(rt: R, book: &Book<Tally>, pass: &mut Pass<Entered>) -> u64
     requires book { pass.old.book ≡ book.now }
     requires free { IsFree pass.old }
     ensures same { (pass.new.book ≡ pass.old.book) × (pass.new.caller ≡ pass.old.caller) × IsFree pass.new × (pass.new.out ≡ pass.old.out) }
     ensures seen { result ≡ length pass.new.seen }
     ensures more { StartsWith pass.new.seen pass.old.seen }
+    ensures alone { IsFirst pass.old → pass.old.out ≡ [] → pass.new.seen ≡ pass.old.seen }
 {
     let mut turn = book.begin(rt, pass);
     let entries = turn.value().entries();

@@ -14,9 +14,9 @@ split_seat-new-requires g c =
       search rules,
       splits g.V.Entry.HistoryEntry.made_by k.history k.side k.origin g.V.Entry.HistoryEntry.is_still _ c.take-seat.result.me.0 g.N.Number.number
           t.idle
-          (t.caller ∙ r.first)
-          (subst (λ (m : ℕ). 0 < m) n r.caller)
+          (t.caller ∙ r.may.is_first)
+          (subst (λ (m : ℕ). 0 < m) n r.may.above)
           (subst (λ (m : ℕ). m < 2 ^ 32) n fits)
-          (ap (λ w. is_out g.N.Number.number w.out) (sym t.pass) ∙ ap (λ (m : ℕ). is_out m c.args.first.now.out) (sym n) ∙ r.home)
-          (ap (λ w. g.V.Entry.HistoryEntry.is_still (entries_by g.V.Entry.HistoryEntry.made_by 0 w.seen)) (sym t.pass) ∙ r.moving),
+          (ap (λ w. is_out g.N.Number.number w.out) (sym t.pass) ∙ ap (λ (m : ℕ). is_out m c.args.first.now.out) (sym n) ∙ r.may.home)
+          (ap (λ w. g.V.Entry.HistoryEntry.is_still (entries_by g.V.Entry.HistoryEntry.made_by 0 w.seen)) (sym t.pass) ∙ r.may.moving),
     )
