@@ -3,6 +3,7 @@ ghost use Rattle.std.specs.Prelude.{◌≡◌, ◌+◌, ◌<◌, ◌^◌, List, 
 ghost use Rattle.chv_defs_guest.specs.Instruction.{CanBeRun, CanStep, instruction, moved, step_of, with_register};
 ghost use Rattle.chv_defs_scene.specs.ScriptReading.{is_instruction, is_register};
 ghost use Rattle.chv_defs_scene.specs.declared.scene.Line.{Line};
+ghost use Rattle.chv_vcpu.specs.Stores.{is_store};
 
 use crate::moves::{jump_if, move_on};
 use crate::registers::{register, set_register};
@@ -22,6 +23,7 @@ pub fn step(alloc: Global, cpu: &mut CpuNote, script: &Script) -> Result<Want, A
     requires script { CanBeRun script.now.lines }
     ensures state { OnOk result (cpu.new ≡ (step_of script.now.lines cpu.old).0) }
     ensures wanted { IfOk result (λ asked. asked ≡ (step_of script.now.lines cpu.old).1) }
+    ensures memory { OnErr result (is_store (step_of script.now.lines cpu.old).1 ≡ true) }
     ensures err { OnErr result (cpu.new ≡ cpu.old) }
 {
     let lines = script.lines.as_slice();
@@ -47,6 +49,7 @@ fn execute(
     requires place { cpu.old.pos + 1 < 2 ^ 32 }
     ensures state { OnOk result (cpu.new ≡ (instruction script.now line.now cpu.old).0) }
     ensures wanted { IfOk result (λ asked. asked ≡ (instruction script.now line.now cpu.old).1) }
+    ensures memory { OnErr result (is_store (instruction script.now line.now cpu.old).1 ≡ true) }
     ensures err { OnErr result (cpu.new ≡ cpu.old) }
 {
     let asked = asked(alloc, cpu, line)?;
@@ -57,7 +60,8 @@ fn execute(
 // What an instruction asks of the world, in a script whatever.
 fn asked(alloc: Global, cpu: &CpuNote, line: &Line) -> Result<Want, AllocError>
     requires { is_instruction line.now ≡ true }
-    ensures { IfOk result (λ asked. (script : List Line) → asked ≡ (instruction script line.now cpu.now).1) }
+    ensures wanted { IfOk result (λ asked. (script : List Line) → asked ≡ (instruction script line.now cpu.now).1) }
+    ensures memory { OnErr result ((script : List Line) → is_store (instruction script line.now cpu.now).1 ≡ true) }
 {
     match line {
         Line::Ld {
