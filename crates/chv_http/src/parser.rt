@@ -2,6 +2,7 @@
 ghost use Rattle.std.specs.Prelude.{◌≡◌, ◌≤◌, ◌+◌, ◌==◌, [], ◌++◌, length, drop, take, IfOk, OnOk, OnErr, vec_len};
 ghost use Rattle.chv_defs_api.specs.Requests.{BeginsWith, Cuts};
 ghost use Rattle.chv_http.specs.Head.{Awaits};
+ghost use Rattle.chv_http.specs.Parser.{IsWithinTwice};
 
 use crate::head::Head;
 use crate::stage::Stage;
@@ -16,7 +17,7 @@ const ROOM: usize = 4_096;
 #[derive(Drop)]
 pub struct Parser {
     alloc: Global,
-    /// What was fed, without a part that was given before.
+    /// What was fed, without a part that was given before: at most twice as long as what was not yet given.
     buffer: Vec<u8>,
     /// Where the bytes begin that were not yet given.
     start: usize,
@@ -104,11 +105,12 @@ fn from(buffer: &[u8], start: usize) -> &[u8]
 }
 
 /// Removes the bytes before `start` where they are half of all at least, and answers where the bytes from `start` on
-/// stand then. So each byte is moved once at most for each byte that is removed.
+/// stand then. So each byte is moved once at most for each byte that is removed, and the buffer stays within twice what is
+/// left.
 fn release(buffer: &mut Vec<u8>, start: usize) -> usize
     requires { start ≤ vec_len buffer.old }
     ensures kept { drop result buffer.new.items ≡ drop start buffer.old.items }
-    ensures within { result ≤ vec_len buffer.new }
+    ensures within { IsWithinTwice result (vec_len buffer.new) }
 {
     if start < buffer.len() - start {
         return start;

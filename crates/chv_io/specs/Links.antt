@@ -1,6 +1,6 @@
 -- What a connection means besides what it has left and what was put into it: the bytes that it gave and the most that
 -- one read gives, each told or not, and whether it was closed.
-use Rattle.std.specs.Prelude.{◌≡◌, ◌≤◌, ℕ, ◌++◌, min, ⊤, List, [], length, take, Bool, false, Option, None, Some, IfSome, Result, Ok, Err}
+use Rattle.std.specs.Prelude.{◌≡◌, ◌≤◌, ℕ, ◌++◌, min, ⊤, List, [], length, take, Bool, false, Option, None, Some, IfSome, Result, Ok, Err, OnOk}
 
 -- A read adds its bytes to those that were given, and a failed one adds none. No call changes whether it is told.
 abbrev pub Gives : {E : Type 0} → Option (List ℕ) → Option (List ℕ) → List ℕ → Result ℕ E → Type 0
@@ -10,7 +10,7 @@ Gives (Some before) (Some after) buffer (Ok n) = after ≡ before ++ take n buff
 Gives (Some before) (Some after) buffer (Err _) = after ≡ before
 
 -- What a read leaves of a connection: what was put, whether it is closed, and a count of write faults that does not
--- fall.
+-- fall. An answered read leaves that count too, as `KeepsOther` says.
 pub record ReadLeaves (put put_after : Option (List ℕ)) (closed closed_after : Bool) (faults faults_after : ℕ) : Type 0 where
   pub put_stays : put_after ≡ put
   pub closed_stays : closed_after ≡ closed
@@ -23,6 +23,10 @@ pub record WriteLeaves (left left_after given given_after : Option (List ℕ)) (
   pub given_stays : given_after ≡ given
   pub closed_stays : closed_after ≡ closed
   pub later : faults ≤ faults_after
+
+-- An answered call of the one kind leaves the count of faults of the other kind as it was.
+abbrev pub KeepsOther : {T E : Type 0} → ℕ → ℕ → Result T E → Type 0
+KeepsOther before now result = OnOk result (now ≡ before)
 
 -- A connection that tells what it has left, and the most that one of its reads gives, gives in a read as much as fits.
 abbrev pub GivesMost : {E : Type 0} → Option (List ℕ) → Option ℕ → ℕ → Result ℕ E → Type 0

@@ -1,15 +1,17 @@
 -- What an object of the outside (an input, an output, a connection) means: the bytes that it has left, the bytes
 -- that were put into it, each told or not, and a count of its faults.
-use Rattle.std.specs.Prelude.{◌≡◌, ◌≤◌, ◌+◌, ◌-◌, ◌^◌, ◌++◌, ◌↔◌, ℕ, min, List, [], length, take, drop, Option, None, Some, Result, Ok, Err, OnErr}
+use Rattle.std.specs.Prelude.{◌≡◌, ◌≤◌, ◌+◌, ◌-◌, ◌^◌, ◌++◌, ◌↔◌, ℕ, min, List, [], length, take, drop, Option, None, Some, Result, Ok, Err, OnOk, OnErr}
 
 -- A count rose: it is greater than before, or it stands at the end of its type, where it cannot rise.
 abbrev pub Rose : ℕ → ℕ → Type 0
 Rose before now = min (before + 1) (2 ^ 64 - 1) ≤ now
 
--- The count never falls, and a failure is answered only where it rose.
+-- The count never falls, a failure is answered only where it rose, and an answer leaves it as it was. So no fault is passed
+-- over, and none is counted that is not answered.
 pub record HasCause {T E : Type 0} (before now : ℕ) (result : Result T E) : Type 0 where
   pub later : before ≤ now
   pub failed : OnErr result (Rose before now)
+  pub kept : OnOk result (now ≡ before)
 
 -- A read of n bytes moves the first n bytes of what is left into the front of the buffer. It is 0 exactly where
 -- nothing is left.

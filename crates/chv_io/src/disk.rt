@@ -26,7 +26,8 @@ pub trait Disk {
         ensures count { result ≡ sector_count self.now }
         ensures whole { IfSome (contents self.now) (λ sectors. IsWhole sectors (sector_count self.now)) };
 
-    /// Copies a sector into the buffer. It changes no sector, whatever it answers.
+    /// Copies a sector into the buffer. It changes no sector, whatever it answers. The count of faults rises at `Failed`,
+    /// here as below, and only there.
     fn read(&mut self, sector: u64, into: &mut [u8; 512]) -> Result<(), Failed>
         requires { sector < sector_count self.old }
         ensures gives { GivesSector (contents self.old) sector into.new result }

@@ -12,8 +12,11 @@ mod mem_sink;
 mod mem_source;
 mod sink;
 mod source;
+mod std_call;
+mod std_reader;
 mod std_sink;
 mod std_source;
+mod std_writer;
 
 pub use calls::Calls;
 pub use disk::Disk;

@@ -2,7 +2,7 @@
 ghost use Rattle.std.specs.Prelude.{◌≡◌, ◌<◌, ℕ, List, Bool, true, Option, Result, length};
 ghost use Rattle.std.specs.Io.{ReadsAtMost};
 ghost use Rattle.chv_io.specs.Outside.{Takes, Puts, HasCause};
-ghost use Rattle.chv_io.specs.Links.{Gives, ReadLeaves, WriteLeaves, Fills};
+ghost use Rattle.chv_io.specs.Links.{Gives, ReadLeaves, WriteLeaves, KeepsOther, Fills};
 ghost use Rattle.chv_io.specs.declared.failed.Failed.{Failed};
 
 use crate::{Failed, Sink, Source};
@@ -39,18 +39,28 @@ pub trait Link: Source + Sink {
         → ReadLeaves (Self.written before) (Self.written after) (closed before) (closed after)
         (Self.write_faults before) (Self.write_faults after) };
 
+    /// An answered read leaves the count of write faults.
+    ghost read_keeps: { (before after : Self) (buffer : List ℕ) (result : Result ℕ Failed)
+        → Self.on_take before after buffer result
+        → KeepsOther (Self.write_faults before) (Self.write_faults after) result };
+
     /// A read gives as much as fits, and as one read gives, where the connection tells that, and leaves how much that is.
     ghost fills: { (before after : Self) (buffer : List ℕ) (result : Result ℕ Failed)
         → Self.on_take before after buffer result
         → Fills (Self.left before) (most before) (most after) (length buffer) result };
 
     /// A write leaves what is left and what was given, and whether the connection is closed.
-    ghost write_leaves: { (before after : Self) → Self.on_put before after
+    ghost write_leaves: { (before after : Self) (result : Result (Unit {0}) Failed) → Self.on_put before after result
         → WriteLeaves (Self.left before) (Self.left after) (gave before) (gave after) (closed before) (closed after)
         (Self.read_faults before) (Self.read_faults after) };
 
+    /// An answered write leaves the count of read faults.
+    ghost write_keeps: { (before after : Self) (result : Result (Unit {0}) Failed) → Self.on_put before after result
+        → KeepsOther (Self.read_faults before) (Self.read_faults after) result };
+
     /// A write leaves how much one read gives.
-    ghost most_stays: { (before after : Self) → Self.on_put before after → most after ≡ most before };
+    ghost most_stays: { (before after : Self) (result : Result (Unit {0}) Failed) → Self.on_put before after result
+        → most after ≡ most before };
 }
 
 /// `take` of a connection, with all that it does to one.
@@ -63,6 +73,7 @@ pub fn read_from<L: Link>(link: &mut L, buf: &mut [u8]) -> Result<usize, Failed>
     ensures fills { Fills (L.left link.old) (L.most link.old) (L.most link.new) (length buf.old) result }
     ensures leaves { ReadLeaves (L.written link.old) (L.written link.new) (L.closed link.old) (L.closed link.new)
         (L.write_faults link.old) (L.write_faults link.new) }
+    ensures kept { KeepsOther (L.write_faults link.old) (L.write_faults link.new) result }
 {
     link.take(buf)
 }
@@ -73,6 +84,7 @@ pub fn write_to<L: Link>(link: &mut L, bytes: &[u8]) -> Result<(), Failed>
     ensures cause { HasCause (L.write_faults link.old) (L.write_faults link.new) result }
     ensures leaves { WriteLeaves (L.left link.old) (L.left link.new) (L.gave link.old) (L.gave link.new)
         (L.closed link.old) (L.closed link.new) (L.read_faults link.old) (L.read_faults link.new) }
+    ensures kept { KeepsOther (L.read_faults link.old) (L.read_faults link.new) result }
     ensures most { L.most link.new ≡ L.most link.old }
 {
     link.put(bytes)

@@ -16,15 +16,16 @@ pub trait Listener {
     /// How many faults there were.
     ghost listen_faults: { Self → ℕ };
 
-    /// Listens on a port, as it has to before every `accept`, and once. After `Failed` it does not listen, and may be told
-    /// to again.
+    /// Listens on a port, as it has to before every `accept`, and once, and leaves the count of faults. After `Failed` that
+    /// rose, it does not listen, and may be told to again.
     fn listen(&mut self, port: u16) -> Result<(), Failed>
         requires { listens_on self.old ≡ None }
         ensures ok { OnOk result (listens_on self.new ≡ Some port) }
         ensures err { OnErr result (listens_on self.new ≡ None) }
         ensures cause { HasCause (listen_faults self.old) (listen_faults self.new) result };
 
-    /// The next connection, which is new. Whatever it answers, it keeps listening on its port.
+    /// The next connection, which is new. Whatever it answers, it keeps listening on its port. A connection that it gives
+    /// is no fault, and leaves the count.
     fn accept(&mut self) -> Result<Self::Conn, Failed>
         requires { IsSome (listens_on self.old) }
         ensures fresh { IfOk result (λ conn. IsNew (Self.Conn.gave conn) (Self.Conn.written conn)

@@ -2,7 +2,7 @@
 ghost use Rattle.std.specs.Prelude.{◌≡◌, ◌<◌, ◌≤◌, ◌↔◌, [], length, take, min, false, IsOk, IfOk, OnErr};
 ghost use Rattle.std.specs.Io.{ReadsAtMost};
 ghost use Rattle.chv_io.specs.Outside.{Takes, Puts, HasCause};
-ghost use Rattle.chv_io.specs.Links.{Gives, ReadLeaves, WriteLeaves, Fills};
+ghost use Rattle.chv_io.specs.Links.{Gives, ReadLeaves, WriteLeaves, KeepsOther, Fills};
 ghost use Rattle.chv_io.specs.FailingCalls.{no_calls, is_listed};
 ghost use Rattle.chv_io.specs.MemSink.{put_fails};
 ghost use Rattle.chv_io.specs.MemLink.{after_read, after_write, jar_of};
@@ -105,7 +105,7 @@ impl MemLink {
 
 impl Source for MemLink {
     ghost use Rattle.std.specs.Prelude.{Some, length};
-    ghost use Rattle.chv_io.specs.Links.{Gives, ReadLeaves, Fills};
+    ghost use Rattle.chv_io.specs.Links.{Gives, ReadLeaves, KeepsOther, Fills};
 
     ghost left = { λ l. Some l.left };
 
@@ -113,6 +113,7 @@ impl Source for MemLink {
 
     ghost on_take = { λ a b buffer result. Gives (Some a.gave) (Some b.gave) buffer result
         × ReadLeaves (Some a.written) (Some b.written) a.closed b.closed a.calls.faults b.calls.faults
+        × KeepsOther a.calls.faults b.calls.faults result
         × Fills (Some a.left) (Some a.piece) (Some b.piece) (length buffer) result };
 
     fn take(&mut self, buf: &mut [u8]) -> Result<usize, Failed>
@@ -123,6 +124,7 @@ impl Source for MemLink {
         ensures also { Gives (Some self.old.gave) (Some self.new.gave) buf.new result
             × ReadLeaves (Some self.old.written) (Some self.new.written) self.old.closed self.new.closed
             self.old.calls.faults self.new.calls.faults
+            × KeepsOther self.old.calls.faults self.new.calls.faults result
             × Fills (Some self.old.left) (Some self.old.piece) (Some self.new.piece) (length buf.new) result }
 
         // Exactly the listed calls fail, and every other gives as much as fits and one piece has.
@@ -143,20 +145,22 @@ impl Source for MemLink {
 
 impl Sink for MemLink {
     ghost use Rattle.std.specs.Prelude.{◌≡◌, Some};
-    ghost use Rattle.chv_io.specs.Links.{WriteLeaves};
+    ghost use Rattle.chv_io.specs.Links.{WriteLeaves, KeepsOther};
 
     ghost written = { λ l. Some l.written };
 
     ghost write_faults = { λ l. l.calls.faults };
 
-    ghost on_put = { λ a b. WriteLeaves (Some a.left) (Some b.left) (Some a.gave) (Some b.gave) a.closed b.closed
-        a.calls.faults b.calls.faults × (Some b.piece ≡ Some a.piece) };
+    ghost on_put = { λ a b result. WriteLeaves (Some a.left) (Some b.left) (Some a.gave) (Some b.gave) a.closed b.closed
+        a.calls.faults b.calls.faults × KeepsOther a.calls.faults b.calls.faults result
+        × (Some b.piece ≡ Some a.piece) };
 
     fn put(&mut self, bytes: &[u8]) -> Result<(), Failed>
         ensures bytes { Puts (Some self.old.written) (Some self.new.written) bytes.now result }
         ensures cause { HasCause self.old.calls.faults self.new.calls.faults result }
         ensures also { WriteLeaves (Some self.old.left) (Some self.new.left) (Some self.old.gave) (Some self.new.gave)
             self.old.closed self.new.closed self.old.calls.faults self.new.calls.faults
+            × KeepsOther self.old.calls.faults self.new.calls.faults result
             × (Some self.new.piece ≡ Some self.old.piece) }
 
         // Exactly the listed calls fail, and those that would pass the room.
@@ -192,11 +196,15 @@ impl Link for MemLink {
 
     ghost read_leaves = { λ before after buffer result also. also.1 };
 
-    ghost fills = { λ before after buffer result also. also.2 };
+    ghost read_keeps = { λ before after buffer result also. also.2 };
 
-    ghost write_leaves = { λ before after also. also.0 };
+    ghost fills = { λ before after buffer result also. also.3 };
 
-    ghost most_stays = { λ before after also. also.1 };
+    ghost write_leaves = { λ before after result also. also.0 };
+
+    ghost write_keeps = { λ before after result also. also.1 };
+
+    ghost most_stays = { λ before after result also. also.2 };
 
     fn close(&mut self)
         ensures { self.new ≡ record self.old { closed = true } }

@@ -17,8 +17,8 @@ pub trait Source {
     /// What else a read does, for an object that is more than a source: before, after, buffer and answer.
     ghost on_take: { Self → Self → List ℕ → Result ℕ Failed → Type 0 } = { λ _ _ _ _. Unit {0} };
 
-    /// Moves the first bytes of what is left into the front of the buffer, and says how many.
-    /// 0 comes exactly where nothing is left. After `Failed` what is left is as before.
+    /// Moves the first bytes of what is left into the front of the buffer, says how many, and leaves the count of faults.
+    /// 0 comes exactly where nothing is left. After `Failed` the count rose, and what is left is as before.
     fn take(&mut self, buf: &mut [u8]) -> Result<usize, Failed>
         requires { 0 < length buf.old }
         ensures bytes { Takes (left self.old) (left self.new) buf.new result }

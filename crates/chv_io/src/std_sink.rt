@@ -1,87 +1,83 @@
 // A sink over a writer of std.
-ghost use Rattle.std.specs.Prelude.{◌≡◌, ◌<◌, ◌≤◌, None, IfOk, length};
+ghost use Rattle.std.specs.Prelude.{◌≡◌, ◌<◌, ◌≤◌, false, None, IfOk, OnOk, length};
 ghost use Rattle.std.specs.Io.KnownBytes.{Keeps, WriteAppends};
 ghost use Rattle.chv_io.specs.Outside.{Puts, HasCause};
-ghost use Rattle.chv_io.specs.Wrapped.{WritesThrough};
+ghost use Rattle.chv_io.specs.Wrapped.{CountsFault, WritesThrough};
 
+use crate::std_call::TRIES;
+use crate::std_writer::CountedWriter;
 use crate::{Failed, Sink};
-use std::io::{ErrorKind, Write};
+use std::io::Write;
 use std::marker::Model;
 
-/// How often a call that was interrupted is tried before it counts as failed.
-const TRIES: u32 = 1000;
-
-/// A sink over a writer, such as standard output or a file. It tells nothing of what was put, and counts a fault at
-/// each error. Each `put` also flushes the writer, so that bytes answered `Ok` do not wait in its buffer. A write or a
-/// flush that was interrupted is tried again; a write that takes nothing is a fault.
+/// A sink over a writer, such as standard output or a file. It tells nothing of what was put. Each `put` also flushes the
+/// writer, so that bytes answered `Ok` do not wait in its buffer. A write or a flush that was interrupted is tried again;
+/// every other error is a fault at once, and so is a call that is interrupted too often, or a write that takes nothing.
 #[derive(Drop)]
 pub struct StdSink<W> {
-    inner: W,
-    faults: u64,
+    writer: CountedWriter<W>,
 }
 
 impl<W> Model for StdSink<W> {
-    ghost use Rattle.chv_io.specs.Wrapped.{Wrapped};
+    ghost use Rattle.chv_io.specs.Wrapped.{Writing};
 
-    ghost Value = { Wrapped W };
+    ghost Value = { Writing W };
 
-    ghost view = { λ s. record { inner = s.inner; faults = s.faults } };
+    ghost view = { λ s. s.writer };
 }
 
 /// Writes some bytes of a piece that is not empty, and says how many.
-fn write_some<W: Write>(inner: &mut W, piece: &[u8]) -> Result<usize, Failed>
+fn write_some<W: Write>(writer: &mut CountedWriter<W>, piece: &[u8]) -> Result<usize, Failed>
     ensures progress { IfOk result (λ n. 0 < n) }
     ensures bound { IfOk result (λ n. n ≤ length piece.now) }
-    ensures given { WriteAppends (W.contents inner.old) (W.contents inner.new) result piece.now }
+    ensures given { WriteAppends (W.contents writer.old.inner) (W.contents writer.new.inner) result piece.now }
+    ensures counted { CountsFault writer.old.faults writer.new.faults result }
 {
     for _ in 0..TRIES {
-        match inner.write(piece) {
-            Ok(0) => return Err(Failed),
-            Ok(count) => return Ok(count),
-            Err(error) => {
-                if error.kind() != ErrorKind::Interrupted {
-                    return Err(Failed);
-                }
-            }
+        match writer.write(piece)? {
+            Some(0) => return Err(writer.fail()),
+            Some(count) => return Ok(count),
+            None => {}
         }
     }
-    Err(Failed)
+    Err(writer.fail())
 }
 
 /// Hands on what waits in the writer's buffer.
-fn flush<W: Write>(inner: &mut W) -> Result<(), Failed>
-    ensures { Keeps (W.contents inner.old) (W.contents inner.new) }
+fn flush<W: Write>(writer: &mut CountedWriter<W>) -> Result<(), Failed>
+    ensures given { Keeps (W.contents writer.old.inner) (W.contents writer.new.inner) }
+    ensures counted { CountsFault writer.old.faults writer.new.faults result }
+    ensures flushed { OnOk result (writer.new.waits ≡ false) }
 {
     for _ in 0..TRIES {
-        match inner.flush() {
-            Ok(()) => return Ok(()),
-            Err(error) => {
-                if error.kind() != ErrorKind::Interrupted {
-                    return Err(Failed);
-                }
-            }
+        if writer.flush()? {
+            return Ok(());
         }
     }
-    Err(Failed)
+    Err(writer.fail())
 }
 
 /// Writes all bytes, and flushes.
-fn write_through<W: Write>(inner: &mut W, bytes: &[u8]) -> Result<(), Failed>
-    ensures { WritesThrough (W.contents inner.old) (W.contents inner.new) bytes.now result }
+fn write_through<W: Write>(writer: &mut CountedWriter<W>, bytes: &[u8]) -> Result<(), Failed>
+    ensures given { WritesThrough (W.contents writer.old.inner) (W.contents writer.new.inner) bytes.now result }
+    ensures counted { CountsFault writer.old.faults writer.new.faults result }
+    ensures flushed { OnOk result (writer.new.waits ≡ false) }
 {
     let mut done = 0;
     while done < bytes.len() {
-        done += write_some(inner, &bytes[done..])?;
+        done += write_some(writer, &bytes[done..])?;
     }
-    flush(inner)
+    flush(writer)
 }
 
 impl<W> StdSink<W> {
     /// A sink over a writer, with no faults yet.
     pub fn new(inner: W) -> StdSink<W>
-        ensures { result ≡ record { inner = inner; faults = 0 } }
+        ensures { result ≡ record { inner = inner; faults = 0; waits = false } }
     {
-        StdSink { inner, faults: 0 }
+        StdSink {
+            writer: CountedWriter::new(inner),
+        }
     }
 }
 
@@ -94,17 +90,19 @@ impl<W: Write> Sink for StdSink<W> {
         ensures bytes { Puts None None bytes.now result }
         ensures cause { HasCause self.old.faults self.new.faults result }
 
+        // A failure is one fault, and an answer none.
+        ensures counted { CountsFault self.old.faults self.new.faults result }
+
         // Where the writer tells what it holds, that grows by these bytes.
         ensures given { WritesThrough (W.contents self.old.inner) (W.contents self.new.inner) bytes.now result }
+
+        // A flush behind the last write was answered.
+        ensures flushed { OnOk result (self.new.waits ≡ false) }
     {
-        let result = write_through(&mut self.inner, bytes);
-        if result.is_err() {
-            self.faults = self.faults.saturating_add(1);
-        }
-        result
+        write_through(&mut self.writer, bytes)
     }
 
     fn sink_faults(&self) -> u64 {
-        self.faults
+        self.writer.faults()
     }
 }

@@ -3,46 +3,41 @@ ghost use Rattle.std.specs.Prelude.{◌≡◌, ◌<◌, None, length};
 ghost use Rattle.std.specs.Io.{ReadsAtMost};
 ghost use Rattle.std.specs.Io.KnownBytes.{ReadConsumes};
 ghost use Rattle.chv_io.specs.Outside.{Takes, HasCause};
+ghost use Rattle.chv_io.specs.Wrapped.{CountsFault};
 
+use crate::std_call::TRIES;
+use crate::std_reader::CountedReader;
 use crate::{Failed, Source};
-use std::io::{ErrorKind, Read};
+use std::io::Read;
 use std::marker::Model;
 
-/// How often a call that was interrupted is tried before it counts as failed.
-const TRIES: u32 = 1000;
-
-/// A source over a reader, such as standard input or a file. It tells nothing of what is left, and counts a fault at
-/// each error. A read that was interrupted is tried again.
+/// A source over a reader, such as standard input or a file. It tells nothing of what is left. A read that was interrupted
+/// is tried again; every other error is a fault at once, and so is a read that is interrupted too often.
 #[derive(Drop)]
 pub struct StdSource<R> {
-    inner: R,
-    faults: u64,
+    reader: CountedReader<R>,
 }
 
 impl<R> Model for StdSource<R> {
-    ghost use Rattle.chv_io.specs.Wrapped.{Wrapped};
+    ghost use Rattle.chv_io.specs.Wrapped.{Reading};
 
-    ghost Value = { Wrapped R };
+    ghost Value = { Reading R };
 
-    ghost view = { λ s. record { inner = s.inner; faults = s.faults } };
+    ghost view = { λ s. s.reader };
 }
 
 /// One read, tried again where it was interrupted.
-fn read_retrying<R: Read>(inner: &mut R, buf: &mut [u8]) -> Result<usize, Failed>
+fn read_retrying<R: Read>(reader: &mut CountedReader<R>, buf: &mut [u8]) -> Result<usize, Failed>
     ensures bound { ReadsAtMost result buf.new }
-    ensures given { ReadConsumes (R.remaining inner.old) (R.remaining inner.new) result buf.new }
+    ensures given { ReadConsumes (R.remaining reader.old.inner) (R.remaining reader.new.inner) result buf.new }
+    ensures counted { CountsFault reader.old.faults reader.new.faults result }
 {
     for _ in 0..TRIES {
-        match inner.read(buf) {
-            Ok(count) => return Ok(count),
-            Err(error) => {
-                if error.kind() != ErrorKind::Interrupted {
-                    return Err(Failed);
-                }
-            }
+        if let Some(count) = reader.read(buf)? {
+            return Ok(count);
         }
     }
-    Err(Failed)
+    Err(reader.fail())
 }
 
 impl<R> StdSource<R> {
@@ -50,7 +45,9 @@ impl<R> StdSource<R> {
     pub fn new(inner: R) -> StdSource<R>
         ensures { result ≡ record { inner = inner; faults = 0 } }
     {
-        StdSource { inner, faults: 0 }
+        StdSource {
+            reader: CountedReader::new(inner),
+        }
     }
 }
 
@@ -65,17 +62,16 @@ impl<R: Read> Source for StdSource<R> {
         ensures bound { ReadsAtMost result buf.new }
         ensures cause { HasCause self.old.faults self.new.faults result }
 
+        // A failure is one fault, and an answer none.
+        ensures counted { CountsFault self.old.faults self.new.faults result }
+
         // Where the reader tells its bytes, these are they.
         ensures given { ReadConsumes (R.remaining self.old.inner) (R.remaining self.new.inner) result buf.new }
     {
-        let result = read_retrying(&mut self.inner, buf);
-        if result.is_err() {
-            self.faults = self.faults.saturating_add(1);
-        }
-        result
+        read_retrying(&mut self.reader, buf)
     }
 
     fn source_faults(&self) -> u64 {
-        self.faults
+        self.reader.faults()
     }
 }

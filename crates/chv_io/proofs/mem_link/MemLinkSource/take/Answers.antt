@@ -7,7 +7,7 @@ pub returns-clause-also : goal.returns-clause-also
 returns-clause-also c =
     let moved = rw (take_rest, c.as_slice.ensures) at c.copy_piece-count.ensures.copied in
     let fits = rw (take_rest, c.as_slice.ensures) at c.copy_piece-count.ensures.count in
-    rw (← c.self.view_is) (given_more _ _ _ _ moved, record { put_stays = refl; closed_stays = refl; later = c.answer.ensures.cause.later }, record { most_stays = refl; full = rw c.copy_piece-count.auto.to fits })
+    rw (← c.self.view_is) (given_more _ _ _ _ moved, record { put_stays = refl; closed_stays = refl; later = c.answer.ensures.cause.later }, c.in_ok-answer.ensures.cause.kept, record { most_stays = refl; full = rw c.copy_piece-count.auto.to fits })
 
 pub returns-clause-after : goal.returns-clause-after
 returns-clause-after c =
