@@ -27,7 +27,7 @@ begun g c =
     let w = c.await_turn.ensures.turn in
     let x = c.exchange.ensures in
     turn_begins g.V.Entry.HistoryEntry.made_by k.history k.side k.origin g.V.Entry.HistoryEntry.is_still c.args.pass.now _ _ c.take-seat.result.me.0 _ _ _ d.2.0 w.0 c.in-Some.value c.of.result t.pass t.caller d.2.2 (ap (λ m. m.0) w.1) w.2 (ap (λ m. m.0) x.3)
-        (slot_value w.0 c.in-Some.value c.await_turn.new.seat.me.1 c.exchange.result _ (ap (λ m. m.1) w.1) x.2 c.in-Some.is) (x.0 ∙ c.await_turn.ensures.book ∙ d.0) c.of.ensures
+    (slot_value w.0 c.in-Some.value c.await_turn.new.seat.me.1 c.exchange.result _ (ap (λ m. m.1) w.1) x.2 c.in-Some.is) (x.0 ∙ c.await_turn.ensures.book ∙ d.0) c.of.ensures
 
 pub returns-clause-turn : goal.returns-clause-turn
 returns-clause-turn g c = (begun g (goal.at.returns-clause-turn g c).After-of).0
