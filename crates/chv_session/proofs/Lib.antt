@@ -7,6 +7,7 @@ pub mod AskedLemmas
 mod PlannedLemmas
 mod StepLemmas
 mod BreaksLemmas
+mod CountsLemmas
 mod ResultLemmas
 mod ReadyLemmas
 mod LeftLemmas

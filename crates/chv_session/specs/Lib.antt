@@ -1,6 +1,7 @@
 pub mod Talk
 pub mod Moment
 pub mod Taking
+pub mod Counts
 pub mod Found
 pub mod Response
 pub mod Making

@@ -1,10 +1,12 @@
 // Takes from a connection until something is at hand.
-ghost use Rattle.std.specs.Prelude.{◌≡◌, ◌<◌, ◌≤◌, ◌+◌, ◌++◌, length, vec_len, vec_capacity, IfOk};
+ghost use Rattle.std.specs.Prelude.{◌≡◌, ◌<◌, ◌≤◌, ◌+◌, ◌++◌, length, vec_len, vec_capacity, IfOk, OnOk, OnErr, MatchResult};
 ghost use Rattle.chv_io.specs.Links.{ReadLeaves};
 ghost use Rattle.chv_defs_api.specs.Requests.{IsShort};
 ghost use Rattle.chv_defs_api.specs.SessionBytes.{session_limit, asks_for};
 ghost use Rattle.chv_session.specs.Taking.{intake, TakesPiece, TakesPieces};
 ghost use Rattle.chv_session.specs.Found.{Finds, IsDrained, IsCaused};
+ghost use Rattle.chv_session.specs.Counts.{CountsStay, StaysUnlessFound};
+ghost use Rattle.chv_session.specs.Moment.{faults};
 
 use chv_defs_api::{Request, Took};
 use chv_defs_base::Rule;
@@ -62,6 +64,9 @@ fn take_into<K: Link>(
     ensures within { vec_len asked.new ≤ vec_len asked.old + length buffer.old }
     ensures leaves { ReadLeaves (K.written link.old) (K.written link.new) (K.closed link.old) (K.closed link.new)
         (K.write_faults link.old) (K.write_faults link.new) }
+    ensures counts { MatchResult result (λ answer. OnOk answer (CountsStay (faults (K.read_faults link.old) (K.read_faults link.new)
+        (K.write_faults link.old) (K.write_faults link.new)))) (λ _. CountsStay (faults (K.read_faults link.old) (K.read_faults link.new)
+        (K.write_faults link.old) (K.write_faults link.new))) }
 {
     match read_from(link, buffer) {
         Ok(count) => {
@@ -87,6 +92,9 @@ fn take_piece<K: Link>(
     ensures within { vec_len asked.new ≤ session_limit }
     ensures leaves { ReadLeaves (K.written link.old) (K.written link.new) (K.closed link.old) (K.closed link.new)
         (K.write_faults link.old) (K.write_faults link.new) }
+    ensures counts { MatchResult result (λ answer. OnOk answer (CountsStay (faults (K.read_faults link.old) (K.read_faults link.new)
+        (K.write_faults link.old) (K.write_faults link.new)))) (λ _. CountsStay (faults (K.read_faults link.old) (K.read_faults link.new)
+        (K.write_faults link.old) (K.write_faults link.new))) }
 {
     asked.reserve(PIECE)?;
     let mut buffer = [0u8; PIECE];
@@ -112,6 +120,10 @@ pub(crate) fn fill<K: Link>(
         (K.write_faults link.old) (K.write_faults link.new) }
     ensures most { K.most link.new ≡ K.most link.old }
     ensures later { K.read_faults link.old ≤ K.read_faults link.new }
+    ensures counts { IfOk result (λ found. StaysUnlessFound found (faults (K.read_faults link.old) (K.read_faults link.new)
+        (K.write_faults link.old) (K.write_faults link.new))) }
+    ensures err_counts { OnErr result (CountsStay (faults (K.read_faults link.old) (K.read_faults link.new)
+        (K.write_faults link.old) (K.write_faults link.new))) }
 {
     loop {
         match parser.take()? {

@@ -7,6 +7,7 @@ ghost use Rattle.chv_defs_api.specs.declared.control.ControlReply.TheVariants.{H
 ghost use Rattle.chv_defs_api.specs.Desks.{IsOnlyAsked, is_session_call, is_held, is_holding};
 ghost use Rattle.chv_defs_api.specs.Routes.{reply_to_call};
 ghost use Rattle.chv_session.specs.Response.{Serves, Responds, BreaksIn, BreaksOn, then_after, HasMadeAlso};
+ghost use Rattle.chv_session.specs.Counts.{IsNoFault};
 ghost use Rattle.chv_session.specs.Making.{Settles, IsAnswer, MakesCall, ServesCall, last_call};
 
 use crate::fill::Found;
@@ -217,6 +218,7 @@ pub(crate) fn respond<R: Copy, T: Desk<R>>(
     ensures responds { IfOk result (λ response. HasMadeAlso (T.answers desk.old) (T.answers desk.new)
         (λ made. Responds found all response made (T.refused desk.old) (T.refused desk.new))) }
     ensures err { OnErr result (HasMadeAlso (T.answers desk.old) (T.answers desk.new) (λ made. BreaksOn found made)) }
+    ensures err_found { OnErr result (IsNoFault found) }
     ensures err_goes_on { OnErr result (T.refused desk.new ≡ T.refused desk.old) }
     ensures asked { IsOnlyAsked T.asks desk.old desk.new }
 {

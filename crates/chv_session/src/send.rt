@@ -5,6 +5,8 @@ ghost use Rattle.chv_defs_api.specs.Desks.{IsOnlyAsked};
 ghost use Rattle.chv_io.specs.Links.{WriteLeaves};
 ghost use Rattle.chv_session.specs.Response.{sent, Sends, Finishes, IsEnd};
 ghost use Rattle.chv_session.specs.Step.{said_at};
+ghost use Rattle.chv_session.specs.Counts.{CountsStay, StaysUnlessEnding};
+ghost use Rattle.chv_session.specs.Moment.{faults};
 ghost use Rattle.chv_session.specs.Wire.{wire, Closes, StaysButClosed};
 
 use crate::fill::keep;
@@ -30,6 +32,10 @@ pub(crate) fn send<K: Link>(
         (K.closed link.old) (K.closed link.new) (K.read_faults link.old) (K.read_faults link.new) }
     ensures most { K.most link.new ≡ K.most link.old }
     ensures later { K.write_faults link.old ≤ K.write_faults link.new }
+    ensures counts { IfOk result (λ after. StaysUnlessEnding after (faults (K.read_faults link.old) (K.read_faults link.new)
+        (K.write_faults link.old) (K.write_faults link.new))) }
+    ensures err_counts { OnErr result (CountsStay (faults (K.read_faults link.old) (K.read_faults link.new)
+        (K.write_faults link.old) (K.write_faults link.new))) }
 {
     let bytes = match &response.reply {
         Some(bytes) => bytes,

@@ -5,7 +5,8 @@ ghost use Rattle.chv_defs_api.specs.Desks.{IsOnlyAsked, is_held};
 ghost use Rattle.chv_defs_api.specs.SessionBytes.{session_limit};
 ghost use Rattle.chv_session.specs.Talk.{new_talk, talk_of, end_of};
 ghost use Rattle.chv_session.specs.Taking.{intake, TakesPieces};
-ghost use Rattle.chv_session.specs.Moment.{moment};
+ghost use Rattle.chv_session.specs.Moment.{faults, moment};
+ghost use Rattle.chv_session.specs.Counts.{IsFaultless, IsLostFaultless};
 ghost use Rattle.chv_session.specs.Wire.{wire, Closes, Drains, StaysButClosed};
 ghost use Rattle.chv_session.specs.Step.{Step, IsReady, Breaks, ComesTo, GetsLost, ClosesLost, said_at, is_over};
 
@@ -70,6 +71,12 @@ fn step<R: Copy, K: Link, T: Desk<R>>(
     ensures most { K.most link.new ≡ K.most link.old }
     ensures read_later { K.read_faults link.old ≤ K.read_faults link.new }
     ensures write_later { K.write_faults link.old ≤ K.write_faults link.new }
+
+    // Without a fault no count of the connection's faults rose.
+    ensures faultless { IfOk result (λ stands. IsFaultless (said_at stands) (T.refused desk.new) (faults (K.read_faults link.old) (K.read_faults link.new)
+        (K.write_faults link.old) (K.write_faults link.new))) }
+    ensures err_faultless { OnErr result (IsLostFaultless (K.closed link.new) (faults (K.read_faults link.old) (K.read_faults link.new)
+        (K.write_faults link.old) (K.write_faults link.new))) }
 {
     let found = fill(parser, asked, link)?;
     let response = respond(alloc, rt, desk, found, parser.is_empty())?;
@@ -194,13 +201,17 @@ impl Session {
             (moment self.new (T.answers desk.new) (T.refused desk.new) (K.written link.new)
             (K.read_faults link.new) (K.write_faults link.new)) (K.closed link.old) (K.closed link.new)) }
 
-        // What stays; all of the connection but whether it is closed, where the session is not open; and all else where it
+        // What stays: without a fault the counts of the connection's faults; all of the connection but whether it is closed, where the session is not open; and all else where it
         // is over.
         ensures caller { T.caller desk.new ≡ T.caller desk.old }
         ensures asked { IsOnlyAsked T.asks desk.old desk.new }
         ensures most { K.most link.new ≡ K.most link.old }
         ensures read_later { K.read_faults link.old ≤ K.read_faults link.new }
         ensures write_later { K.write_faults link.old ≤ K.write_faults link.new }
+        ensures faultless { IfOk result (λ next. IsFaultless next (T.refused desk.new) (faults (K.read_faults link.old) (K.read_faults link.new)
+            (K.write_faults link.old) (K.write_faults link.new))) }
+        ensures lost_faultless { OnErr result (IsLostFaultless (K.closed link.new) (faults (K.read_faults link.old) (K.read_faults link.new)
+            (K.write_faults link.old) (K.write_faults link.new))) }
         ensures link_stays { self.old.state ≢ State.Open → StaysButClosed
             (wire (K.left link.old) (K.gave link.old) (K.written link.old) (K.most link.old) (K.read_faults link.old) (K.write_faults link.old))
             (wire (K.left link.new) (K.gave link.new) (K.written link.new) (K.most link.new) (K.read_faults link.new) (K.write_faults link.new)) }

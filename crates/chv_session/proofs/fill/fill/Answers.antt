@@ -1,5 +1,6 @@
 use Rattle.std.proofs.Common.{arith, ◌∙◌}
 use Rattle.chv_session.proofs.FoundLemmas.{found_bad, found_limit, found_end, found_fault, left_short, fed_more, takes_more}
+use Rattle.chv_session.proofs.CountsLemmas.{counts_join}
 use Rattle.chv_session.proofs.LeavesLemmas.{read_leaves_join}
 use Rattle.chv_session.proofs.fill.fill.Goals as goal
 
@@ -40,6 +41,7 @@ loop-request-preserved g c = record {
   leaves = read_leaves_join c.loop-request.invariant.leaves c.take_piece.ensures.leaves;
   most = c.take_piece.ensures.takes.most_stays ∙ c.loop-request.invariant.most;
   later = omega (arith, c.loop-request.invariant.later, c.take_piece.ensures.takes.later);
+  counts = counts_join c.loop-request.invariant.counts (rw c.in-Ok.is at c.in_ok-take_piece.ensures.counts);
 }
 
 pub returns-in-Err-clause-taken : goal.returns-in-Err-clause-taken

@@ -1,6 +1,8 @@
 use Rattle.std.proofs.Common.{◌≡◌, ◌≤◌, ◌-◌, vec_len}
 use Rattle.chv_io.specs.Links.{ReadLeaves}
 use Rattle.chv_defs_api.specs.SessionBytes.{session_limit}
+use Rattle.chv_session.specs.Counts.{CountsStay}
+use Rattle.chv_session.specs.Moment.{faults}
 use Rattle.chv_session.specs.Taking.{intake, TakesPieces, HasFed}
 use Rattle.chv_session.proofs.fill.fill.Given as goal
 
@@ -17,6 +19,8 @@ invariant-loop-request g l = record {
       (g.K.Link.closed l.link) (g.K.Sink.write_faults l.fn.link) (g.K.Sink.write_faults l.link);
   most : g.K.Link.most l.link ≡ g.K.Link.most l.fn.link;
   later : g.K.Source.read_faults l.fn.link ≤ g.K.Source.read_faults l.link;
+  counts : CountsStay (faults (g.K.Source.read_faults l.fn.link) (g.K.Source.read_faults l.link)
+      (g.K.Sink.write_faults l.fn.link) (g.K.Sink.write_faults l.link));
 }
 
 abbrev pub decreases-loop-request : goal.decreases-loop-request

@@ -7,6 +7,7 @@ use Rattle.chv_session.proofs.StepLemmas.{turn_is, step_is}
 use Rattle.chv_session.proofs.BreaksLemmas.{breaks_taking, breaks_making, breaks_sending, breaks_ending, closes_ending}
 use Rattle.chv_session.proofs.AskedLemmas.{asked_join}
 use Rattle.chv_session.proofs.DrainLemmas.{ends_at_fault, drains_is}
+use Rattle.chv_session.proofs.CountsLemmas.{found_and_sent, finished_so, no_fault_stays}
 use Rattle.chv_session.proofs.session.step.Goals as goal
 
 pub returns-in_err-found-clause-err : goal.returns-in_err-found-clause-err
@@ -79,3 +80,15 @@ returns-clause-drains g c =
     c.in_ok-found.ensures.drained _ _ _ c.in_ok-found.ensures.cause
     (omega (arith, c.send.ensures.leaves.later, c.finish.ensures.stays.read_stays)) _ _ _ _ _ _
     (ends_at_fault _ _ _ _ _ _ c.in_ok-response.ensures.responds.2 _ _ _ c.in_ok-then.ensures.sends) c.in_ok-stands.ensures.finishes
+
+pub returns-clause-faultless : goal.returns-clause-faultless
+returns-clause-faultless g c =
+    finished_so _ _ _ _ _ _ _
+    (rw (c.finish.ensures.stays.read_stays, c.finish.ensures.stays.written_stays)
+    (found_and_sent _ _ c.in_ok-found.ensures.counts
+    (ends_at_fault _ _ _ _ _ _ c.in_ok-response.ensures.responds.2 _ _ _ c.in_ok-then.ensures.sends) c.in_ok-then.ensures.counts))
+    c.in_ok-stands.ensures.finishes
+
+pub returns-in_err-response-clause-err_faultless : goal.returns-in_err-response-clause-err_faultless
+returns-in_err-response-clause-err_faultless g c =
+    on_err _ _ (inl (no_fault_stays _ _ c.in_err-response.ensures.err_found c.in_ok-found.ensures.counts))

@@ -5,6 +5,7 @@ use Rattle.chv_session.specs.Talk.{Talk, talk_of}
 use Rattle.chv_session.specs.Moment.{moment}
 use Rattle.chv_session.specs.Taking.{intake}
 use Rattle.chv_session.proofs.TakingLemmas.{takes_none}
+use Rattle.chv_session.proofs.CountsLemmas.{left_faultless}
 use Rattle.chv_session.proofs.LeftLemmas.{left_comes, left_lost, left_closes, left_ready, left_drains}
 use Rattle.chv_session.proofs.session.Session.next.Goals as goal
 
@@ -49,3 +50,6 @@ returns-in-Lost-clause-taken g c = takes_none (cc) (cc) (cc)
 pub returns-in-Leaving-clause-taken : goal.returns-in-Leaving-clause-taken
 returns-in-Leaving-clause-taken g c =
     takes_none (ap (λ (t : Talk). t.asked) c.self.view_is) c.leave-left.ensures.stays.left_stays c.leave-left.ensures.stays.gave_stays
+
+pub returns-in-Open-clause-faultless : goal.returns-in-Open-clause-faultless
+returns-in-Open-clause-faultless g c = left_faultless _ _ _ _ _ c.step-left.ensures.faultless c.stand-in-Open.ensures
