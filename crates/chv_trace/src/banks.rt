@@ -24,6 +24,8 @@ pub(crate) fn push_banks<K: Sink>(
     ensures ok { OnOk result (Adds (K.written out.old) (string_bytes buffer.old) (K.written out.new) (string_bytes buffer.new) (flat_map bank_part banks.now)) }
     ensures part { OnErr result (BreaksOff (K.written out.old) (string_bytes buffer.old) (K.written out.new) (flat_map bank_part banks.now)) }
     ensures cause { result ≡ Err PrintError.Failed → Rose (K.write_faults out.old) (K.write_faults out.new) }
+    ensures kept { OnOk result (K.write_faults out.new ≡ K.write_faults out.old) }
+    ensures memory { result ≡ Err PrintError.Memory → K.write_faults out.new ≡ K.write_faults out.old }
     ensures later { K.write_faults out.old ≤ K.write_faults out.new }
 {
     for bank in banks {
@@ -42,6 +44,8 @@ fn push_bank<K: Sink>(
     ensures ok { OnOk result (Adds (K.written out.old) (string_bytes buffer.old) (K.written out.new) (string_bytes buffer.new) (bank_part bank.now)) }
     ensures part { OnErr result (BreaksOff (K.written out.old) (string_bytes buffer.old) (K.written out.new) (bank_part bank.now)) }
     ensures cause { result ≡ Err PrintError.Failed → Rose (K.write_faults out.old) (K.write_faults out.new) }
+    ensures kept { OnOk result (K.write_faults out.new ≡ K.write_faults out.old) }
+    ensures memory { result ≡ Err PrintError.Memory → K.write_faults out.new ≡ K.write_faults out.old }
     ensures later { K.write_faults out.old ≤ K.write_faults out.new }
 {
     push_head(alloc, out, buffer, bank)?;
@@ -58,6 +62,8 @@ fn push_head<K: Sink>(
     ensures ok { OnOk result (Adds (K.written out.old) (string_bytes buffer.old) (K.written out.new) (string_bytes buffer.new) (bank_head bank.now)) }
     ensures part { OnErr result (BreaksOff (K.written out.old) (string_bytes buffer.old) (K.written out.new) (bank_head bank.now)) }
     ensures cause { result ≡ Err PrintError.Failed → Rose (K.write_faults out.old) (K.write_faults out.new) }
+    ensures kept { OnOk result (K.write_faults out.new ≡ K.write_faults out.old) }
+    ensures memory { result ≡ Err PrintError.Memory → K.write_faults out.new ≡ K.write_faults out.old }
     ensures later { K.write_faults out.old ≤ K.write_faults out.new }
 {
     let line = head_line(alloc, bank.zone, bank.bank, bank.entries.len())?;

@@ -20,6 +20,8 @@ pub(crate) fn push<K: Sink>(out: &mut K, buffer: &mut String, text: &str) -> Res
     ensures small { OnOk result (string_len buffer.new < PIECE) }
     ensures part { OnErr result (BreaksOff (K.written out.old) (string_bytes buffer.old) (K.written out.new) text.now) }
     ensures cause { result ≡ Err PrintError.Failed → Rose (K.write_faults out.old) (K.write_faults out.new) }
+    ensures kept { OnOk result (K.write_faults out.new ≡ K.write_faults out.old) }
+    ensures memory { result ≡ Err PrintError.Memory → K.write_faults out.new ≡ K.write_faults out.old }
     ensures later { K.write_faults out.old ≤ K.write_faults out.new }
 {
     buffer.push_str(text)?;
@@ -32,6 +34,8 @@ pub(crate) fn put_all<K: Sink>(out: &mut K, buffer: &mut String) -> Result<(), P
     ensures none { OnOk result (string_bytes buffer.new ≡ []) }
     ensures part { OnErr result (BreaksOff (K.written out.old) (string_bytes buffer.old) (K.written out.new) []) }
     ensures cause { result ≡ Err PrintError.Failed → Rose (K.write_faults out.old) (K.write_faults out.new) }
+    ensures kept { OnOk result (K.write_faults out.new ≡ K.write_faults out.old) }
+    ensures memory { result ≡ Err PrintError.Memory → K.write_faults out.new ≡ K.write_faults out.old }
     ensures later { K.write_faults out.old ≤ K.write_faults out.new }
 {
     out.put(buffer.as_str().as_bytes())?;
@@ -45,6 +49,8 @@ fn put_piece<K: Sink>(out: &mut K, buffer: &mut String) -> Result<(), PrintError
     ensures small { OnOk result (string_len buffer.new < PIECE) }
     ensures part { OnErr result (BreaksOff (K.written out.old) (string_bytes buffer.old) (K.written out.new) []) }
     ensures cause { result ≡ Err PrintError.Failed → Rose (K.write_faults out.old) (K.write_faults out.new) }
+    ensures kept { OnOk result (K.write_faults out.new ≡ K.write_faults out.old) }
+    ensures memory { result ≡ Err PrintError.Memory → K.write_faults out.new ≡ K.write_faults out.old }
     ensures later { K.write_faults out.old ≤ K.write_faults out.new }
 {
     if buffer.len() < PIECE {
@@ -63,6 +69,8 @@ pub(crate) fn push_pairs<K: Sink>(
     ensures ok { OnOk result (Adds (K.written out.old) (string_bytes buffer.old) (K.written out.new) (string_bytes buffer.new) (pairs_or_dash bytes.now)) }
     ensures part { OnErr result (BreaksOff (K.written out.old) (string_bytes buffer.old) (K.written out.new) (pairs_or_dash bytes.now)) }
     ensures cause { result ≡ Err PrintError.Failed → Rose (K.write_faults out.old) (K.write_faults out.new) }
+    ensures kept { OnOk result (K.write_faults out.new ≡ K.write_faults out.old) }
+    ensures memory { result ≡ Err PrintError.Memory → K.write_faults out.new ≡ K.write_faults out.old }
     ensures later { K.write_faults out.old ≤ K.write_faults out.new }
 {
     if bytes.is_empty() {
@@ -76,6 +84,8 @@ fn push_each_pair<K: Sink>(out: &mut K, buffer: &mut String, bytes: &[u8]) -> Re
     ensures ok { OnOk result (Adds (K.written out.old) (string_bytes buffer.old) (K.written out.new) (string_bytes buffer.new) (pairs bytes.now)) }
     ensures part { OnErr result (BreaksOff (K.written out.old) (string_bytes buffer.old) (K.written out.new) (pairs bytes.now)) }
     ensures cause { result ≡ Err PrintError.Failed → Rose (K.write_faults out.old) (K.write_faults out.new) }
+    ensures kept { OnOk result (K.write_faults out.new ≡ K.write_faults out.old) }
+    ensures memory { result ≡ Err PrintError.Memory → K.write_faults out.new ≡ K.write_faults out.old }
     ensures later { K.write_faults out.old ≤ K.write_faults out.new }
 {
     for byte in bytes {
@@ -88,6 +98,8 @@ fn push_pair<K: Sink>(out: &mut K, buffer: &mut String, byte: u8) -> Result<(), 
     ensures ok { OnOk result (Adds (K.written out.old) (string_bytes buffer.old) (K.written out.new) (string_bytes buffer.new) (pair byte)) }
     ensures part { OnErr result (BreaksOff (K.written out.old) (string_bytes buffer.old) (K.written out.new) (pair byte)) }
     ensures cause { result ≡ Err PrintError.Failed → Rose (K.write_faults out.old) (K.write_faults out.new) }
+    ensures kept { OnOk result (K.write_faults out.new ≡ K.write_faults out.old) }
+    ensures memory { result ≡ Err PrintError.Memory → K.write_faults out.new ≡ K.write_faults out.old }
     ensures later { K.write_faults out.old ≤ K.write_faults out.new }
 {
     add_pair(buffer, byte)?;

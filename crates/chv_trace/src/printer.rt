@@ -24,6 +24,8 @@ pub fn print<K: Sink>(alloc: Global, trace: &Trace, out: &mut K) -> Result<(), P
     ensures ok { OnOk result (Gains (K.written out.old) (K.written out.new) (trace_text trace.now)) }
     ensures part { OnErr result (GainsPart (K.written out.old) (K.written out.new) (trace_text trace.now)) }
     ensures cause { result ≡ Err PrintError.Failed → Rose (K.write_faults out.old) (K.write_faults out.new) }
+    ensures kept { OnOk result (K.write_faults out.new ≡ K.write_faults out.old) }
+    ensures memory { result ≡ Err PrintError.Memory → K.write_faults out.new ≡ K.write_faults out.old }
     ensures later { K.write_faults out.old ≤ K.write_faults out.new }
 {
     let mut buffer = String::new(alloc);
@@ -41,6 +43,8 @@ fn push_trace<K: Sink>(
     ensures ok { OnOk result (Adds (K.written out.old) (string_bytes buffer.old) (K.written out.new) (string_bytes buffer.new) (trace_text trace.now)) }
     ensures part { OnErr result (BreaksOff (K.written out.old) (string_bytes buffer.old) (K.written out.new) (trace_text trace.now)) }
     ensures cause { result ≡ Err PrintError.Failed → Rose (K.write_faults out.old) (K.write_faults out.new) }
+    ensures kept { OnOk result (K.write_faults out.new ≡ K.write_faults out.old) }
+    ensures memory { result ≡ Err PrintError.Memory → K.write_faults out.new ≡ K.write_faults out.old }
     ensures later { K.write_faults out.old ≤ K.write_faults out.new }
 {
     push_scene(alloc, out, buffer, trace)?;
@@ -60,6 +64,8 @@ fn push_control<K: Sink>(
     ensures ok { OnOk result (Adds (K.written out.old) (string_bytes buffer.old) (K.written out.new) (string_bytes buffer.new) (control_part entries.now)) }
     ensures part { OnErr result (BreaksOff (K.written out.old) (string_bytes buffer.old) (K.written out.new) (control_part entries.now)) }
     ensures cause { result ≡ Err PrintError.Failed → Rose (K.write_faults out.old) (K.write_faults out.new) }
+    ensures kept { OnOk result (K.write_faults out.new ≡ K.write_faults out.old) }
+    ensures memory { result ≡ Err PrintError.Memory → K.write_faults out.new ≡ K.write_faults out.old }
     ensures later { K.write_faults out.old ≤ K.write_faults out.new }
 {
     let head = control_head(alloc, entries.len())?;

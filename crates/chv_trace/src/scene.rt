@@ -26,6 +26,8 @@ pub(crate) fn push_scene<K: Sink>(
     ensures ok { OnOk result (Adds (K.written out.old) (string_bytes buffer.old) (K.written out.new) (string_bytes buffer.new) (codes "trace 1\n" ++ scene_part trace.now)) }
     ensures part { OnErr result (BreaksOff (K.written out.old) (string_bytes buffer.old) (K.written out.new) (codes "trace 1\n" ++ scene_part trace.now)) }
     ensures cause { result ≡ Err PrintError.Failed → Rose (K.write_faults out.old) (K.write_faults out.new) }
+    ensures kept { OnOk result (K.write_faults out.new ≡ K.write_faults out.old) }
+    ensures memory { result ≡ Err PrintError.Memory → K.write_faults out.new ≡ K.write_faults out.old }
     ensures later { K.write_faults out.old ≤ K.write_faults out.new }
 {
     let vcpus = trace.vcpus.as_slice();
@@ -61,6 +63,8 @@ fn push_vcpus<K: Sink>(
     ensures ok { OnOk result (Adds (K.written out.old) (string_bytes buffer.old) (K.written out.new) (string_bytes buffer.new) (flat_map vcpu_section vcpus.now)) }
     ensures part { OnErr result (BreaksOff (K.written out.old) (string_bytes buffer.old) (K.written out.new) (flat_map vcpu_section vcpus.now)) }
     ensures cause { result ≡ Err PrintError.Failed → Rose (K.write_faults out.old) (K.write_faults out.new) }
+    ensures kept { OnOk result (K.write_faults out.new ≡ K.write_faults out.old) }
+    ensures memory { result ≡ Err PrintError.Memory → K.write_faults out.new ≡ K.write_faults out.old }
     ensures later { K.write_faults out.old ≤ K.write_faults out.new }
 {
     for vcpu in vcpus {
@@ -79,6 +83,8 @@ fn push_vcpu<K: Sink>(
     ensures ok { OnOk result (Adds (K.written out.old) (string_bytes buffer.old) (K.written out.new) (string_bytes buffer.new) (vcpu_section vcpu.now)) }
     ensures part { OnErr result (BreaksOff (K.written out.old) (string_bytes buffer.old) (K.written out.new) (vcpu_section vcpu.now)) }
     ensures cause { result ≡ Err PrintError.Failed → Rose (K.write_faults out.old) (K.write_faults out.new) }
+    ensures kept { OnOk result (K.write_faults out.new ≡ K.write_faults out.old) }
+    ensures memory { result ≡ Err PrintError.Memory → K.write_faults out.new ≡ K.write_faults out.old }
     ensures later { K.write_faults out.old ≤ K.write_faults out.new }
 {
     let head = vcpu_line(alloc, vcpu.vcpu, vcpu.fuel)?;

@@ -22,6 +22,8 @@ pub(crate) fn push_sessions<K: Sink>(
     ensures ok { OnOk result (Adds (K.written out.old) (string_bytes buffer.old) (K.written out.new) (string_bytes buffer.new) (flat_map session_part sessions.now)) }
     ensures part { OnErr result (BreaksOff (K.written out.old) (string_bytes buffer.old) (K.written out.new) (flat_map session_part sessions.now)) }
     ensures cause { result ≡ Err PrintError.Failed → Rose (K.write_faults out.old) (K.write_faults out.new) }
+    ensures kept { OnOk result (K.write_faults out.new ≡ K.write_faults out.old) }
+    ensures memory { result ≡ Err PrintError.Memory → K.write_faults out.new ≡ K.write_faults out.old }
     ensures later { K.write_faults out.old ≤ K.write_faults out.new }
 {
     for session in sessions {
@@ -40,6 +42,8 @@ fn push_session<K: Sink>(
     ensures ok { OnOk result (Adds (K.written out.old) (string_bytes buffer.old) (K.written out.new) (string_bytes buffer.new) (session_part session.now)) }
     ensures part { OnErr result (BreaksOff (K.written out.old) (string_bytes buffer.old) (K.written out.new) (session_part session.now)) }
     ensures cause { result ≡ Err PrintError.Failed → Rose (K.write_faults out.old) (K.write_faults out.new) }
+    ensures kept { OnOk result (K.write_faults out.new ≡ K.write_faults out.old) }
+    ensures memory { result ≡ Err PrintError.Memory → K.write_faults out.new ≡ K.write_faults out.old }
     ensures later { K.write_faults out.old ≤ K.write_faults out.new }
 {
     push_end(alloc, out, buffer, session)?;
@@ -57,6 +61,8 @@ fn push_end<K: Sink>(
     ensures ok { OnOk result (Adds (K.written out.old) (string_bytes buffer.old) (K.written out.new) (string_bytes buffer.new) (end_line session.now)) }
     ensures part { OnErr result (BreaksOff (K.written out.old) (string_bytes buffer.old) (K.written out.new) (end_line session.now)) }
     ensures cause { result ≡ Err PrintError.Failed → Rose (K.write_faults out.old) (K.write_faults out.new) }
+    ensures kept { OnOk result (K.write_faults out.new ≡ K.write_faults out.old) }
+    ensures memory { result ≡ Err PrintError.Memory → K.write_faults out.new ≡ K.write_faults out.old }
     ensures later { K.write_faults out.old ≤ K.write_faults out.new }
 {
     let line = end_line(alloc, session.session, session.log.end)?;
@@ -94,6 +100,8 @@ fn push_bytes<K: Sink>(
     ensures ok { OnOk result (Adds (K.written out.old) (string_bytes buffer.old) (K.written out.new) (string_bytes buffer.new) (word.now ++ pairs_or_dash bytes.now ++ codes "\n")) }
     ensures part { OnErr result (BreaksOff (K.written out.old) (string_bytes buffer.old) (K.written out.new) (word.now ++ pairs_or_dash bytes.now ++ codes "\n")) }
     ensures cause { result ≡ Err PrintError.Failed → Rose (K.write_faults out.old) (K.write_faults out.new) }
+    ensures kept { OnOk result (K.write_faults out.new ≡ K.write_faults out.old) }
+    ensures memory { result ≡ Err PrintError.Memory → K.write_faults out.new ≡ K.write_faults out.old }
     ensures later { K.write_faults out.old ≤ K.write_faults out.new }
 {
     push(out, buffer, word)?;

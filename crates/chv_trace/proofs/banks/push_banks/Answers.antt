@@ -1,4 +1,4 @@
-use Rattle.std.proofs.Common.{◌+◌, flat_map, drop, arith}
+use Rattle.std.proofs.Common.{◌∙◌, ◌+◌, flat_map, drop, arith}
 use Rattle.chv_defs.specs.TraceText.{bank_part}
 use Rattle.chv_trace.proofs.Joined.{flat_map_next, flat_map_rest}
 use Rattle.chv_trace.proofs.Putting.{next_added, next_broken}
@@ -13,4 +13,5 @@ pub loop-bank-preserved : goal.loop-bank-preserved
 loop-bank-preserved g c = record {
   added = next_added c.loop-bank.invariant.added c.in_ok-push_bank.ensures.ok _ (flat_map_next bank_part c.args.banks.now c.loop-bank.bank-index _ c.bank-item.result c.loop-bank-test.true c.bank-item.is);
   later = omega (arith, c.in_ok-push_bank.ensures.later, c.loop-bank.invariant.later);
+  kept = c.in_ok-push_bank.ensures.kept ∙ c.loop-bank.invariant.kept;
 }

@@ -1,4 +1,4 @@
-use Rattle.std.proofs.Common.{◌+◌, flat_map, drop, refl, arith}
+use Rattle.std.proofs.Common.{◌∙◌, ◌+◌, flat_map, drop, refl, arith}
 use Rattle.chv_defs_base.specs.Numbers.{pair}
 use Rattle.chv_trace.proofs.Joined.{flat_map_next, flat_map_rest}
 use Rattle.chv_trace.proofs.Putting.{next_added, next_broken}
@@ -13,4 +13,5 @@ pub loop-byte-preserved : goal.loop-byte-preserved
 loop-byte-preserved g c = record {
   added = next_added c.loop-byte.invariant.added c.in_ok-push_pair.ensures.ok _ (flat_map_next pair c.args.bytes.now c.loop-byte.byte-index _ _ c.loop-byte-test.true refl);
   later = omega (arith, c.in_ok-push_pair.ensures.later, c.loop-byte.invariant.later);
+  kept = c.in_ok-push_pair.ensures.kept ∙ c.loop-byte.invariant.kept;
 }

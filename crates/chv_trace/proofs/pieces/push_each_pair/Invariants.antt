@@ -1,4 +1,4 @@
-use Rattle.std.proofs.Common.{◌≤◌, flat_map, take, string_bytes}
+use Rattle.std.proofs.Common.{◌≡◌, ◌≤◌, flat_map, take, string_bytes}
 use Rattle.chv_defs_base.specs.Numbers.{pair}
 use Rattle.chv_trace.specs.Printing.{Adds}
 use Rattle.chv_trace.proofs.pieces.push_each_pair.Given as goal
@@ -11,4 +11,5 @@ invariant-loop-byte g l =
     record {
       added : Adds (written l.initial.out) (string_bytes l.initial.buffer) (written l.out) (string_bytes l.buffer) (flat_map pair (take l.byte-index l.bytes));
       later : faults l.initial.out ≤ faults l.out;
+      kept : faults l.out ≡ faults l.initial.out;
     }

@@ -1,4 +1,4 @@
-use Rattle.std.proofs.Common.{◌+◌, flat_map, drop, arith}
+use Rattle.std.proofs.Common.{◌∙◌, ◌+◌, flat_map, drop, arith}
 use Rattle.chv_defs.specs.TraceText.{session_part}
 use Rattle.chv_trace.proofs.Joined.{flat_map_next, flat_map_rest}
 use Rattle.chv_trace.proofs.Putting.{next_added, next_broken}
@@ -13,4 +13,5 @@ pub loop-session-preserved : goal.loop-session-preserved
 loop-session-preserved g c = record {
   added = next_added c.loop-session.invariant.added c.in_ok-push_session.ensures.ok _ (flat_map_next session_part c.args.sessions.now c.loop-session.session-index _ c.session-item.result c.loop-session-test.true c.session-item.is);
   later = omega (arith, c.in_ok-push_session.ensures.later, c.loop-session.invariant.later);
+  kept = c.in_ok-push_session.ensures.kept ∙ c.loop-session.invariant.kept;
 }
