@@ -2,7 +2,7 @@
 ghost use Rattle.std.specs.Prelude.{◌≡◌, ◌<◌, ◌-◌, ◌^◌, length, drop, min, false, None, Some, IsOk, IfOk};
 ghost use Rattle.std.specs.Io.{ReadsAtMost};
 ghost use Rattle.chv_io.specs.Outside.{Takes, Puts, HasCause};
-ghost use Rattle.chv_io.specs.Links.{ReadLeaves, WriteLeaves, Fills};
+ghost use Rattle.chv_io.specs.Links.{ReadLeaves, WriteLeaves, KeepsOther, Fills};
 
 use chv_io::{Failed, Link, Sink, Source, copy_front};
 use std::marker::Model;
@@ -42,13 +42,13 @@ impl StreamLink {
 
 impl Source for StreamLink {
     ghost use Rattle.std.specs.Prelude.{◌-◌, ◌^◌, None, Some, length};
-    ghost use Rattle.chv_io.specs.Links.{ReadLeaves, Fills};
+    ghost use Rattle.chv_io.specs.Links.{ReadLeaves, KeepsOther, Fills};
 
     ghost left = { λ s. Some s.left };
 
     ghost read_faults = { λ _. 0 };
 
-    ghost on_take = { λ a b buffer result. ReadLeaves None None a.closed b.closed 0 0
+    ghost on_take = { λ a b buffer result. ReadLeaves None None a.closed b.closed 0 0 × KeepsOther 0 0 result
         × Fills (Some a.left) (Some (2 ^ 64 - 1)) (Some (2 ^ 64 - 1)) (length buffer) result };
 
     fn take(&mut self, buf: &mut [u8]) -> Result<usize, Failed>
@@ -56,7 +56,7 @@ impl Source for StreamLink {
         ensures bytes { Takes (Some self.old.left) (Some self.new.left) buf.new result }
         ensures bound { ReadsAtMost result buf.new }
         ensures cause { HasCause 0 0 result }
-        ensures also { ReadLeaves None None self.old.closed self.new.closed 0 0
+        ensures also { ReadLeaves None None self.old.closed self.new.closed 0 0 × KeepsOther 0 0 result
             × Fills (Some self.old.left) (Some (2 ^ 64 - 1)) (Some (2 ^ 64 - 1)) (length buf.new) result }
         ensures answered { IsOk result }
         ensures count { IfOk result (λ n. n ≡ min (length buf.old) (length self.old.left)) }
@@ -73,18 +73,20 @@ impl Source for StreamLink {
 
 impl Sink for StreamLink {
     ghost use Rattle.std.specs.Prelude.{None, Some};
-    ghost use Rattle.chv_io.specs.Links.{WriteLeaves};
+    ghost use Rattle.chv_io.specs.Links.{WriteLeaves, KeepsOther};
 
     ghost written = { λ _. None };
 
     ghost write_faults = { λ _. 0 };
 
-    ghost on_put = { λ a b. WriteLeaves (Some a.left) (Some b.left) None None a.closed b.closed 0 0 };
+    ghost on_put = { λ a b result. WriteLeaves (Some a.left) (Some b.left) None None a.closed b.closed 0 0
+        × KeepsOther 0 0 result };
 
     fn put(&mut self, _bytes: &[u8]) -> Result<(), Failed>
         ensures bytes { Puts None None _bytes.now result }
         ensures cause { HasCause 0 0 result }
-        ensures also { WriteLeaves (Some self.old.left) (Some self.new.left) None None self.old.closed self.new.closed 0 0 }
+        ensures also { WriteLeaves (Some self.old.left) (Some self.new.left) None None self.old.closed self.new.closed 0 0
+            × KeepsOther 0 0 result }
         ensures answered { IsOk result }
     {
         Ok(())
@@ -109,11 +111,15 @@ impl Link for StreamLink {
 
     ghost read_leaves = { λ before after buffer result also. also.0 };
 
-    ghost fills = { λ before after buffer result also. also.1 };
+    ghost read_keeps = { λ before after buffer result also. also.1 };
 
-    ghost write_leaves = { λ before after also. also };
+    ghost fills = { λ before after buffer result also. also.2 };
 
-    ghost most_stays = { λ before after also. refl };
+    ghost write_leaves = { λ before after result also. also.0 };
+
+    ghost write_keeps = { λ before after result also. also.1 };
+
+    ghost most_stays = { λ before after result also. refl };
 
     fn close(&mut self)
         ensures { self.new ≡ record self.old { closed = true } }
