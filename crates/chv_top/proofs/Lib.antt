@@ -3,3 +3,4 @@ pub mod Taking
 pub mod Texts
 pub mod Words
 pub mod OtherWords
+mod FaultLemmas

@@ -1,3 +1,4 @@
+pub mod Faultless
 pub mod Given
 pub mod Outcome
 pub mod Says

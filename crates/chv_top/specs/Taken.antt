@@ -19,7 +19,7 @@ pub record HasRead (left left_after : Option (List ℕ)) (bytes : List ℕ) (lim
   pub within : length bytes ≤ limit
   pub end : length bytes < limit → IfSome left_after (λ rest. rest ≡ [])
 
--- a fault of reading comes only where the count rose
+-- A fault of reading is told only where the count rose, and want of memory only where it did not.
 abbrev pub FailsBy : ℕ → ℕ → InputError → Type 0
-FailsBy before now Memory = Unit {0}
+FailsBy before now Memory = now ≡ before
 FailsBy before now ReadFault = Rose before now

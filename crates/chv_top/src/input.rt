@@ -1,5 +1,5 @@
 // Reads an input up to a limit.
-ghost use Rattle.std.specs.Prelude.{◌≡◌, ◌≤◌, ◌<◌, IfOk, IfErr};
+ghost use Rattle.std.specs.Prelude.{◌≡◌, ◌≤◌, ◌<◌, IfOk, IfErr, OnOk};
 ghost use Rattle.chv_top.specs.Outcome.{TakesAtMost};
 ghost use Rattle.chv_top.specs.Taken.{Took, HasRead, FailsBy};
 
@@ -26,6 +26,7 @@ pub fn read_input<S: Source>(
     ensures err { IfErr result (λ error. FailsBy (S.read_faults input.old) (S.read_faults input.new) error) }
     ensures few { TakesAtMost (S.left input.old) (S.left input.new) limit }
     ensures later { S.read_faults input.old ≤ S.read_faults input.new }
+    ensures kept { OnOk result (S.read_faults input.new ≡ S.read_faults input.old) }
 {
     let mut bytes = Vec::new(alloc);
     while bytes.len() < limit {
@@ -48,6 +49,7 @@ fn take_piece<S: Source>(
     ensures err { IfErr result (λ error. FailsBy (S.read_faults input.old) (S.read_faults input.new) error) }
     ensures few { TakesAtMost (S.left input.old) (S.left input.new) most }
     ensures later { S.read_faults input.old ≤ S.read_faults input.new }
+    ensures kept { OnOk result (S.read_faults input.new ≡ S.read_faults input.old) }
 {
     let mut buffer = [0u8; PIECE];
     let room = most.min(PIECE);

@@ -2,6 +2,7 @@
 ghost use Rattle.std.specs.Prelude.{◌≡◌, ◌≤◌, IfOk, string_bytes};
 ghost use Rattle.chv_defs.specs.ProgramText as lines;
 ghost use Rattle.chv_defs.specs.TraceText as trace;
+ghost use Rattle.chv_top.specs.Faultless.{WritesFaultless};
 ghost use Rattle.chv_top.specs.Says.{Writes};
 
 use crate::status::Status;
@@ -15,6 +16,7 @@ pub fn write<K: Sink>(out: &mut K, text: &str, wanted: Status) -> Status
     ensures wrote { Writes (K.written out.old) (K.written out.new) (K.write_faults out.old) (K.write_faults out.new)
         text.now wanted result }
     ensures later { K.write_faults out.old ≤ K.write_faults out.new }
+    ensures kept { WritesFaultless result (K.write_faults out.old) (K.write_faults out.new) }
 {
     match out.put(text.as_bytes()) {
         Ok(()) => wanted,

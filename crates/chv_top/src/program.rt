@@ -1,11 +1,12 @@
 // The program's calls.
-ghost use Rattle.std.specs.Prelude.{◌≡◌, ◌≤◌, ◌<◌, true, false, List, Result, Ok, Err, IfOk, IfErr, IfSome, MatchResult, length};
+ghost use Rattle.std.specs.Prelude.{◌≡◌, ◌≤◌, ◌<◌, true, false, List, Result, Ok, Err, IfOk, IfErr, IfSome, OnOk, MatchResult, length};
 ghost use Rattle.chv_defs_api.specs.declared.shelf.OnShelf.{OnShelf};
 ghost use Rattle.chv_defs_base.specs.declared.book.Full as defs_full;
 ghost use Rattle.chv_defs.specs.declared.trace.Trace as defs_trace;
 ghost use Rattle.chv_defs.specs.Schedule.{schedule};
 ghost use Rattle.chv_control.specs.Shelf.{sectors_of, shelf_of};
 ghost use Rattle.chv_play.specs.Played.{Comes};
+ghost use Rattle.chv_top.specs.Faultless.{StopsFaultless, TellsFaults, WritesFaultless};
 ghost use Rattle.chv_top.specs.Outcome.{TakesAtMost};
 ghost use Rattle.chv_top.specs.Says.{IsPlain, IsScene, Reports, ReportsFull, ReportsTrace, Says, StopsBy, Tells};
 
@@ -58,6 +59,8 @@ pub fn play_input<S: Source, K: Sink, D: Disk + Drop>(
     ensures few { TakesAtMost (S.left input.old) (S.left input.new) 16777217 }
     ensures reads { S.read_faults input.old ≤ S.read_faults input.new }
     ensures writes { K.write_faults out.old ≤ K.write_faults out.new }
+    ensures faults { TellsFaults result.status (S.read_faults input.old) (S.read_faults input.new)
+        (K.write_faults out.old) (K.write_faults out.new) }
 {
     match scene_in(alloc, input) {
         Ok(scene) => play_scene(alloc, out, disks, &scene),
@@ -74,6 +77,8 @@ fn scene_in<S: Source>(alloc: Global, input: &mut S) -> Result<Scene, Stop>
     ensures err { IfErr result (λ stop. StopsBy (S.left input.old) (S.left input.new) (S.read_faults input.old) (S.read_faults input.new) stop) }
     ensures few { TakesAtMost (S.left input.old) (S.left input.new) 16777217 }
     ensures later { S.read_faults input.old ≤ S.read_faults input.new }
+    ensures kept { OnOk result (S.read_faults input.new ≡ S.read_faults input.old) }
+    ensures counts { IfErr result (λ stop. StopsFaultless stop (S.read_faults input.old) (S.read_faults input.new)) }
 {
     let text = match read_input(alloc, input, INPUT_LIMIT) {
         Ok(text) => text,
@@ -110,6 +115,7 @@ fn or_stop<T: Drop>(read: Result<Result<T, SceneFault>, AllocError>) -> Result<T
 fn say<K: Sink>(alloc: Global, out: &mut K, stop: Stop) -> Status
     ensures said { Tells (K.written out.old) (K.written out.new) (K.write_faults out.old) (K.write_faults out.new) stop result }
     ensures later { K.write_faults out.old ≤ K.write_faults out.new }
+    ensures kept { WritesFaultless result (K.write_faults out.old) (K.write_faults out.new) }
 {
     match stop {
         Stop::Memory => Status::Memory,
@@ -123,6 +129,7 @@ fn say_fault<K: Sink>(alloc: Global, out: &mut K, fault: SceneFault) -> Status
     ensures said { Tells (K.written out.old) (K.written out.new) (K.write_faults out.old) (K.write_faults out.new)
         (Stop.Scene fault) result }
     ensures later { K.write_faults out.old ≤ K.write_faults out.new }
+    ensures kept { WritesFaultless result (K.write_faults out.old) (K.write_faults out.new) }
 {
     match scene_fault(alloc, fault) {
         Ok(line) => write(
@@ -149,6 +156,7 @@ fn play_scene<K: Sink, D: Disk + Drop>(
         (K.written out.old) (K.written out.new) (K.write_faults out.old) (K.write_faults out.new) result.status }
     ensures disks { result.disks.items ≡ disks.items }
     ensures later { K.write_faults out.old ≤ K.write_faults out.new }
+    ensures kept { WritesFaultless result.status (K.write_faults out.old) (K.write_faults out.new) }
 {
     let (disks, back) = match given(alloc, disks) {
         Ok(both) => both,
@@ -203,6 +211,7 @@ fn report<K: Sink>(
     ensures reports { (shelf : List OnShelf) (given : Result defs_trace.Trace defs_full.Full) → Comes shelf given trace cause
         → Reports shelf given (K.written out.old) (K.written out.new) (K.write_faults out.old) (K.write_faults out.new) result }
     ensures later { K.write_faults out.old ≤ K.write_faults out.new }
+    ensures kept { WritesFaultless result (K.write_faults out.old) (K.write_faults out.new) }
 {
     match (trace, cause) {
         (Some(trace), None) => report_trace(alloc, out, &trace),
@@ -216,6 +225,7 @@ fn report_trace<K: Sink>(alloc: Global, out: &mut K, trace: &Trace) -> Status
     requires plain { IsPlain trace.now }
     ensures reports { ReportsTrace trace.now (K.written out.old) (K.written out.new) (K.write_faults out.old) (K.write_faults out.new) result }
     ensures later { K.write_faults out.old ≤ K.write_faults out.new }
+    ensures kept { WritesFaultless result (K.write_faults out.old) (K.write_faults out.new) }
 {
     match print(alloc, trace, out) {
         Ok(()) => Status::Done,
@@ -228,6 +238,7 @@ fn report_trace<K: Sink>(alloc: Global, out: &mut K, trace: &Trace) -> Status
 fn report_full<K: Sink>(alloc: Global, out: &mut K, book: Full) -> Status
     ensures reports { ReportsFull book (K.written out.old) (K.written out.new) (K.write_faults out.old) (K.write_faults out.new) result }
     ensures later { K.write_faults out.old ≤ K.write_faults out.new }
+    ensures kept { WritesFaultless result (K.write_faults out.old) (K.write_faults out.new) }
 {
     match full(alloc, book) {
         Ok(line) => write(

@@ -6,6 +6,7 @@ ghost use Rattle.chv_defs_base.specs.declared.book.BookId.{BookId};
 ghost use Rattle.chv_defs_base.specs.declared.rule.Reason.{Reason};
 ghost use Rattle.chv_control.specs.Shelf.{shelf_of};
 ghost use Rattle.chv_top.specs.Outcome.{IsComplete, IsFull, IsPartOfOwed, IsPlayed, IsRefused, IsTooLong, TakesAtMost};
+ghost use Rattle.chv_top.specs.Faultless.{NoneRose, TellsFaults};
 ghost use Rattle.chv_top.specs.Words.{ArePlay};
 
 use crate::lines::{usage, write};
@@ -47,6 +48,15 @@ pub fn play_program<S: Source, K: Sink, D: Disk + Drop>(
     // The status is that of what the input comes to, unless a fault or want of memory comes.
     ensures complete { IsComplete (shelf_of D.sector_count disks.items) (S.left input.old) (S.read_faults input.old)
         (S.read_faults input.new) (K.write_faults out.old) (K.write_faults out.new) result.status }
+
+    // A fault is told as a fault: where the work is done, or memory was wanting, no count of faults rose, nor at any other
+    // status that tells of none.
+    ensures done_faultless { result.status ≡ Status.Done → NoneRose (S.read_faults input.old)
+        (S.read_faults input.new) (K.write_faults out.old) (K.write_faults out.new) }
+    ensures memory_faultless { result.status ≡ Status.Memory → NoneRose (S.read_faults input.old)
+        (S.read_faults input.new) (K.write_faults out.old) (K.write_faults out.new) }
+    ensures faults { TellsFaults result.status (S.read_faults input.old) (S.read_faults input.new)
+        (K.write_faults out.old) (K.write_faults out.new) }
 
     // The disks come back. No more is read than shows that an input is too long, and no count of faults falls.
     ensures disks { result.disks.items ≡ disks.items }
@@ -100,6 +110,15 @@ pub fn run_program<S: Source, K: Sink, D: Disk + Drop>(
     ensures complete { ArePlay words.now
         → IsComplete (shelf_of D.sector_count disks.items) (S.left input.old) (S.read_faults input.old)
         (S.read_faults input.new) (K.write_faults out.old) (K.write_faults out.new) result.status }
+
+    // A fault is told as a fault: where the work is done, or memory was wanting, no count of faults rose, nor at any other
+    // status that tells of none.
+    ensures done_faultless { result.status ≡ Status.Done → NoneRose (S.read_faults input.old)
+        (S.read_faults input.new) (K.write_faults out.old) (K.write_faults out.new) }
+    ensures memory_faultless { result.status ≡ Status.Memory → NoneRose (S.read_faults input.old)
+        (S.read_faults input.new) (K.write_faults out.old) (K.write_faults out.new) }
+    ensures faults { TellsFaults result.status (S.read_faults input.old) (S.read_faults input.new)
+        (K.write_faults out.old) (K.write_faults out.new) }
 
     // The disks come back. No more is read than shows that an input is too long, and no count of faults falls.
     ensures disks { result.disks.items ≡ disks.items }

@@ -1,4 +1,4 @@
-use Rattle.std.proofs.Common.{◌≤◌, ◌-◌, length, vec_len}
+use Rattle.std.proofs.Common.{◌≡◌, ◌≤◌, ◌-◌, length, vec_len}
 use Rattle.chv_io.specs.Outside.{Loses}
 use Rattle.chv_top.proofs.input.read_input.Given as goal
 
@@ -7,6 +7,7 @@ invariant-loop-bytes g l = record {
   moved : Loses (g.S.Source.left l.fn.input) (g.S.Source.left l.input) l.bytes.items;
   within : length l.bytes.items ≤ l.limit;
   later : g.S.Source.read_faults l.fn.input ≤ g.S.Source.read_faults l.input;
+  kept : g.S.Source.read_faults l.input ≡ g.S.Source.read_faults l.fn.input;
 }
 
 abbrev pub decreases-loop-bytes : goal.decreases-loop-bytes

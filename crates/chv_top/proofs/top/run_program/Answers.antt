@@ -1,4 +1,5 @@
 use Rattle.std.proofs.Common.{refl}
+use Rattle.chv_top.proofs.FaultLemmas.{read_well}
 use Rattle.chv_top.proofs.OtherWords.{otherwise, which, no_other, line_written, part_written}
 use Rattle.chv_top.proofs.top.run_program.Goals as goal
 
@@ -42,6 +43,15 @@ returns-then-are_play-clause-memory g c is = (c.are_play.ensures.0 c.if-are_play
 pub returns-then-are_play-clause-complete : goal.returns-then-are_play-clause-complete
 returns-then-are_play-clause-complete g c are = c.play_program.ensures.complete
 
+pub returns-then-are_play-clause-done_faultless : goal.returns-then-are_play-clause-done_faultless
+returns-then-are_play-clause-done_faultless g c is = c.play_program.ensures.done_faultless is
+
+pub returns-then-are_play-clause-memory_faultless : goal.returns-then-are_play-clause-memory_faultless
+returns-then-are_play-clause-memory_faultless g c is = c.play_program.ensures.memory_faultless is
+
+pub returns-then-are_play-clause-faults : goal.returns-then-are_play-clause-faults
+returns-then-are_play-clause-faults g c = c.play_program.ensures.faults
+
 -- ---- they are not: the line of the words is written, or a first part of it
 
 pub returns-else-are_play-clause-done : goal.returns-else-are_play-clause-done
@@ -80,3 +90,12 @@ returns-else-are_play-clause-part_of_owed g c is are = absurd (otherwise _ (c.ar
 
 pub returns-else-are_play-clause-complete : goal.returns-else-are_play-clause-complete
 returns-else-are_play-clause-complete g c are = absurd (otherwise _ (c.are_play.ensures.1 are) c.if-are_play.false)
+
+pub returns-else-are_play-clause-done_faultless : goal.returns-else-are_play-clause-done_faultless
+returns-else-are_play-clause-done_faultless g c is = absurd (no_other _ _ _ _ _ _ _ c.write.ensures.wrote is refl)
+
+pub returns-else-are_play-clause-memory_faultless : goal.returns-else-are_play-clause-memory_faultless
+returns-else-are_play-clause-memory_faultless g c is = absurd (no_other _ _ _ _ _ _ _ c.write.ensures.wrote is refl)
+
+pub returns-else-are_play-clause-faults : goal.returns-else-are_play-clause-faults
+returns-else-are_play-clause-faults g c = read_well _ refl c.write.ensures.kept
