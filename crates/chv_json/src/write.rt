@@ -1,7 +1,10 @@
 // The texts that are written.
-ghost use Rattle.std.specs.Prelude.{◌≡◌, IfOk, false};
+ghost use Rattle.std.specs.Prelude.{◌≡◌, ◌≤◌, IfOk, Ok, false};
+ghost use Rattle.serde_json.specs.Data.{depth};
+ghost use Rattle.serde_json.specs.Read.{max_depth};
 ghost use Rattle.serde_json.specs.View.{view};
 ghost use Rattle.serde_json.specs.Written.{compact_text, has_float};
+ghost use Rattle.chv_defs_api.specs.JsonBodies as bodies;
 ghost use Rattle.chv_defs_api.specs.JsonTexts as texts;
 ghost use Rattle.chv_defs_api.specs.JsonTexts.{quoted};
 
@@ -12,9 +15,12 @@ use chv_defs_base::{Row, Text};
 use serde_json::Value;
 use std::alloc::{AllocError, Global};
 
+// The compact text of a value. As a body it means that value, where this has no more levels than a body may have.
+#[tactic(auto, using(crate::proofs::Spelled::text_means))]
 fn compact(alloc: Global, value: Value) -> Result<Text, AllocError>
     requires { has_float (view value) ≡ false }
-    ensures { IfOk result (λ t. t ≡ compact_text (view value)) }
+    ensures text { IfOk result (λ t. t ≡ compact_text (view value)) }
+    ensures reads_back { IfOk result (λ t. depth (view value) ≤ max_depth → bodies.value_of t ≡ Ok (view value)) }
 {
     Ok(Text::new(value.to_string(alloc)?))
 }
@@ -26,18 +32,20 @@ pub fn quoted_text(alloc: Global, text: &str) -> Result<Text, AllocError>
     compact(alloc, Value::String(String::from_str(alloc, text)?))
 }
 
-/// The text of a configuration, as `vm.create` takes it and `vm.info` shows it.
-#[tactic(auto, using(crate::proofs::Floatless::floatless_config), unfolding(chv_defs_api::specs::JsonTexts::config_text))]
+/// The text of a configuration, as `vm.create` takes it and `vm.info` shows it. As a body it means that configuration.
+#[tactic(auto, using(crate::proofs::Floatless::floatless_config, crate::proofs::Levels::config_means), unfolding(chv_defs_api::specs::JsonTexts::config_text))]
 pub fn config_text(alloc: Global, config: &VmConfig) -> Result<Text, AllocError>
-    ensures { IfOk result (λ t. t ≡ texts.config_text config.now) }
+    ensures text { IfOk result (λ t. t ≡ texts.config_text config.now) }
+    ensures reads_back { IfOk result (λ t. bodies.config_of t ≡ Ok config.now) }
 {
     compact(alloc, config.to_json(alloc)?)
 }
 
-/// The text of a disk, as `vm.add-disk` takes it.
-#[tactic(auto, using(crate::proofs::Floatless::floatless_disk), unfolding(chv_defs_api::specs::JsonTexts::disk_text))]
+/// The text of a disk, as `vm.add-disk` takes it. As a body it means that disk.
+#[tactic(auto, using(crate::proofs::Floatless::floatless_disk, crate::proofs::Levels::disk_means), unfolding(chv_defs_api::specs::JsonTexts::disk_text))]
 pub fn disk_text(alloc: Global, disk: &DiskConfig) -> Result<Text, AllocError>
-    ensures { IfOk result (λ t. t ≡ texts.disk_text disk.now) }
+    ensures text { IfOk result (λ t. t ≡ texts.disk_text disk.now) }
+    ensures reads_back { IfOk result (λ t. bodies.disk_of t ≡ Ok disk.now) }
 {
     compact(alloc, disk.to_json(alloc)?)
 }
