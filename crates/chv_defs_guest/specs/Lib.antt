@@ -8,3 +8,4 @@ pub mod Moments
 pub mod Worlds
 pub mod VcpuCourse
 pub mod Slices
+pub mod SliceLaws
