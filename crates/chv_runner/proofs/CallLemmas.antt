@@ -1,17 +1,14 @@
 -- What a call of a slice comes to, from what a reach and a desk say of it.
-use Rattle.std.proofs.Common.{◌≡◌, ℕ, ◌==◌, Bool, true, false, List, [], ◌∷◌, ◌++◌, Option, None, Some, length, refl, sym, ap, subst, ◌∙◌, rules}
-use Rattle.std.specs.Prelude.{◌&&◌, Ok, Err, IfOk, IfSome, OnErr, if◌then◌else◌}
+use Rattle.std.proofs.Common.{◌≡◌, ℕ, ◌==◌, Bool, true, false, List, [], ◌∷◌, ◌++◌, Option, None, Some, refl, sym, ap, ◌∙◌, rules}
+use Rattle.std.specs.Prelude.{◌&&◌, Ok, Err, IfOk, OnErr, if◌then◌else◌}
 use Rattle.std.proofs.lemmas.List.{append-nil}
 use Rattle.std.proofs.lemmas.List.FromFn.{length-map-range_with_len}
-use Rattle.std.proofs.lemmas.Bool.{and_parts, eq-eqb}
-use Rattle.chv_defs_base.specs.Numbers.{is_width}
+use Rattle.std.proofs.lemmas.Bool.{eq-eqb}
 use Rattle.chv_defs_memory.specs.declared.bank.BankCall.{BankCall}
 use Rattle.chv_defs_memory.specs.declared.bank.BankCall.TheVariants as call
 use Rattle.chv_defs_memory.specs.declared.bank.BankEntry.{BankEntry}
 use Rattle.chv_defs_memory.specs.declared.bank.BankReply.{BankReply}
 use Rattle.chv_defs_memory.specs.declared.bank.BankReply.TheVariants as reply
-use Rattle.chv_defs_memory.specs.declared.bank.Refusal.{Refusal}
-use Rattle.chv_defs_memory.specs.declared.bank.Refusal.TheVariants as refusal
 use Rattle.chv_defs_memory.specs.BankBook.{BankBook, refusal_of, refused_or, sealed_or_full}
 use Rattle.chv_defs_memory.specs.BankState.{is_frozen, is_owner_call, later}
 use Rattle.chv_defs_memory.specs.LastByte.{last_byte}
@@ -24,7 +21,6 @@ use Rattle.chv_defs_guest.specs.Course.{access_cause, book_if, entry_by, Accesse
 use Rattle.chv_defs_guest.specs.Moments.{Makes, Moment, OnlySeesOn, Turn}
 use Rattle.chv_defs_guest.proofs.CourseLemmas.{later_none, makes_access}
 use Rattle.chv_defs_guest.specs.Replies.{can_come, is_reply_of}
-use Rattle.chv_runner.specs.Cuts.{GivesWidth, HasWidth}
 
 -- what an access leaves of the own entries in its bank
 pub own_behind : (caller : ℕ) (c : BankCall) (before after : List BankEntry) (came : Access) → IfOk came (λ answer. after ≡ left_by before caller c answer)

@@ -1,14 +1,13 @@
 -- What a caller entered in each book, and the order, tell its exchanges.
 use Rattle.std.proofs.Common.{◌≡◌, ◌∙◌, ℕ, ◌==◌, Bool, true, false, List, [], ◌∷◌, ◌++◌, refl, ap, sym, subst}
 use Rattle.std.specs.Prelude.{◌&&◌, Ok, Err, if◌then◌else◌}
-use Rattle.std.specs.List.{list_all}
 use Rattle.std.proofs.lemmas.Bool.{eq-eqb, false≢true}
 use Rattle.chv_defs_base.specs.declared.book.BookId.{BookId}
 use Rattle.chv_defs_base.specs.declared.book.BookId.TheVariants as book
 use Rattle.chv_defs_api.specs.Desks.{Answer}
 use Rattle.chv_defs_memory.specs.declared.bank.BankEntry.{BankEntry}
-use Rattle.chv_defs_guest.specs.Course.{Exchange, Accessed, Asked, answers_of, books_of, entries_in}
-use Rattle.chv_defs_guest.specs.SliceLaws.{AreReplied, OrderTells}
+use Rattle.chv_defs_guest.specs.Course.{Accessed, Asked, entries_in}
+use Rattle.chv_defs_guest.specs.SliceLaws.{OrderTells}
 
 abbrev head_or : {A : Type 0} → A → List A → A
 head_or d [] = d

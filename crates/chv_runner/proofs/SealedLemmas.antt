@@ -1,17 +1,15 @@
 -- What an access that was refused at a sealed block tells.
-use Rattle.std.proofs.Common.{◌≡◌, ◌∙◌, ℕ, Bool, true, false, List, [], ◌∷◌, ◌++◌, length, Option, None, Some, refl, ap, sym, subst, rules}
-use Rattle.std.specs.Prelude.{Ok, Err, if◌then◌else◌}
+use Rattle.std.proofs.Common.{◌≡◌, ◌∙◌, ℕ, Bool, true, false, [], ◌∷◌, length, Option, None, Some, refl, sym, rules}
+use Rattle.std.specs.Prelude.{Err, if◌then◌else◌}
 use Rattle.chv_defs_memory.specs.declared.bank.BankCall.{BankCall}
 use Rattle.chv_defs_memory.specs.declared.bank.BankCall.TheVariants as call
-use Rattle.chv_defs_memory.specs.declared.bank.BankReply.{BankReply}
 use Rattle.chv_defs_memory.specs.declared.bank.Refusal.{Refusal}
 use Rattle.chv_defs_memory.specs.declared.bank.Refusal.TheVariants as refusal
 use Rattle.chv_defs_memory.specs.BankBook.{BankBook, full, passes_limit, places_of, refusal_of, refused_or, sealed_or_full}
 use Rattle.chv_defs_memory.specs.BankState.{is_frozen, payload_of}
 use Rattle.chv_defs_memory.specs.LegalBank.{access_reply, first_sealed}
-use Rattle.chv_defs_guest.specs.Course.{Exchange, Accessed, Asked}
-use Rattle.chv_defs_guest.specs.Moments.{Turns}
-use Rattle.chv_defs_guest.specs.SliceLaws.{SealedAt, SealedTells}
+use Rattle.chv_defs_guest.specs.Course.{Accessed, Asked}
+use Rattle.chv_defs_guest.specs.SliceLaws.{SealedTells}
 use Rattle.chv_runner.proofs.CallLemmas.{is_thawed}
 
 due : {A : Type 0} (o : Option Refusal) (a : A) (why : Refusal) → Err why ≡ refused_or o a → o ≡ Some why

@@ -1,5 +1,5 @@
 -- A slice, instruction by instruction.
-use Rattle.std.proofs.Common.{◌≡◌, ◌∙◌, ◌<◌, ◌-◌, ℕ, zero, suc, Bool, true, false, List, Option, None, Some, inl, refl, ap, sym, subst, arith, rules}
+use Rattle.std.proofs.Common.{◌≡◌, ◌∙◌, ◌<◌, ◌-◌, ℕ, zero, suc, true, false, List, Option, None, Some, inl, refl, ap, sym, subst, arith, rules}
 use Rattle.std.specs.Prelude.{if◌then◌else◌}
 use Rattle.chv_defs_api.specs.declared.context.CpuNote.{CpuNote}
 use Rattle.chv_defs_api.specs.declared.context.SliceEnd.{SliceEnd}
@@ -20,7 +20,7 @@ use Rattle.chv_defs_guest.specs.Pieces.{has_width, CanBeMade}
 use Rattle.chv_defs_guest.specs.Routing.{Piece, piece_of, route_of}
 use Rattle.chv_defs_guest.specs.Routing.Piece.{Known}
 use Rattle.chv_defs_guest.specs.Slices.{IsMapOfZones, MakesSlice}
-use Rattle.chv_defs_guest.specs.VcpuCourse.{gets, instruction_course, is_over, most_instructions, on_or_end, piece_course, vcpu_course}
+use Rattle.chv_defs_guest.specs.VcpuCourse.{instruction_course, is_over, most_instructions, on_or_end, piece_course, vcpu_course}
 use Rattle.chv_defs_guest.specs.Worlds.{Does, StaysOut}
 use Rattle.chv_defs_guest.proofs.CourseLemmas.{does_join, does_none}
 use Rattle.chv_bus.proofs.PieceLemmas.{pieces_made}

@@ -1,5 +1,3 @@
-use Rattle.std.proofs.Common.{◌≡◌, ◌∙◌, ap, Ok, Err}
-use Rattle.chv_defs_guest.specs.VcpuCourse.{behind_access}
 use Rattle.chv_runner.proofs.answers.behind_answer.Goals as goal
 
 pub returns-in-Err-clause-course : goal.returns-in-Err-clause-course

@@ -1,4 +1,4 @@
-use Rattle.std.proofs.Common.{◌∙◌, sym, ap, refl, arith, Some, subst}
+use Rattle.std.proofs.Common.{◌∙◌, sym, ap, refl, arith, Some}
 use Rattle.chv_defs_guest.specs.Course.{Ends}
 use Rattle.chv_defs_guest.specs.Instruction.{step_of}
 use Rattle.chv_defs_guest.specs.Moments.{moment}

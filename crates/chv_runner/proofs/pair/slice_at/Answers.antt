@@ -1,4 +1,4 @@
-use Rattle.std.proofs.Common.{◌≡◌, ap}
+use Rattle.std.proofs.Common.{ap}
 use Rattle.chv_runner.specs.Pairs.{desk_asks, reach_accesses}
 use Rattle.chv_runner.proofs.PairLemmas.{slice_at, slice_keeps}
 use Rattle.chv_runner.proofs.pair.slice_at.Goals as goal
