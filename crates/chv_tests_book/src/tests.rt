@@ -65,7 +65,7 @@ fn is_kept(alloc: Global) -> bool {
     tally.place == 3 && tally.entries.is_empty()
 }
 
-// `rt try --test --fail-alloc 1.. -- a_value_is_kept_or_comes_back` lets the book's memory be wanting.
+// `rt try --test --fail-alloc 1 -- a_value_is_kept_or_comes_back` lets the memory of the book be wanting.
 #[test]
 fn a_value_is_kept_or_comes_back(rt: HostRuntime) -> Result<(), Fail> {
     assert!(rt; is_kept(rt.alloc()));
