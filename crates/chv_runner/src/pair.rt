@@ -48,6 +48,8 @@ impl<R: Copy, X: Reach<R>, T> Reach<R> for Pair<'_, X, T> {
     ) -> Result<Result<BankReply, Refusal>, AllocError> {
         self.reach.access(rt, zone, bank, call)
     }
+
+    ghost tells_own = { λ p zone bank lent there. X.tells_own p.reach.now zone bank lent there };
 }
 
 impl<R: Copy, X, T: Desk<R>> Desk<R> for Pair<'_, X, T> {
