@@ -132,53 +132,12 @@ makes_access m n zone bank c answer caller own others takes answers stopped orde
   fitting = one_fitting (can_come c answer) fits;
 }
 
--- the control machine was asked
-pub makes_ask : (m n : Moment) (c : ControlCall) (answer : Outcome) → n.caller ≡ m.caller
-    → ((z b : ℕ) → IsBank z b → n.own z b ≡ m.own z b) → ((z b : ℕ) → IsBank z b → OnlySeesOn m.caller (m.seen z b) (n.seen z b))
-    → n.answers ≡ m.answers ++ answer_in (Asked c answer) → n.stopped ≡ later m.stopped (stopped_in (Asked c answer))
-    → n.order ≡ m.order ++ book_if book.Control answer → n.cause ≡ later m.cause (outcome_cause answer) → is_fitting (Asked c answer) ≡ true
-    → Makes m (Asked c answer ∷ []) n
-makes_ask m n c answer caller own seen answers stopped order cause fits = record {
-  caller = caller;
-  banks = λ z b there. own z b there ∙ sym (append-nil (m.own z b));
-  turns = (n.seen, seen, refl);
-  answers = answers ∙ ap (λ xs. m.answers ++ xs) (sym (append-nil (answer_in (Asked c answer))));
-  stopped = stopped;
-  order = order ∙ ap (λ xs. m.order ++ xs) (sym (append-nil (book_if book.Control answer)));
-  cause = cause;
-  fitting = one_fitting (is_fitting (Asked c answer)) fits;
-}
-
 -- ---- what was done of a course
 
 -- nothing was done
 pub does_none : {N W : Type 0} (accesses : W → ℕ → ℕ → BankCall → Access → W → Type 0) (asks : W → ControlCall → W → Type 0) (course : Course N) (w : W) (m : Moment)
     → Does accesses asks course w m w m course
 does_none accesses asks course w m = record { exchanges = []; leads = refl; makes = makes_none m; chains = refl }
-
--- an access was made, where the course is that of the access
-pub does_access : {N W : Type 0} (accesses : W → ℕ → ℕ → BankCall → Access → W → Type 0) (asks : W → ControlCall → W → Type 0) (course rest : Course N)
-    (v w : W) (m n : Moment) (zone bank : ℕ) (call : BankCall) (next : Access → Course N) (answer : Access)
-    → course ≡ Accesses zone bank call next → next answer ≡ rest → Makes m (Accessed zone bank call answer ∷ []) n → accesses v zone bank call answer w
-    → Does accesses asks course v m w n rest
-does_access accesses asks course rest v w m n zone bank call next answer is left made related = record {
-  exchanges = Accessed zone bank call answer ∷ [];
-  leads = subst (λ d. Leads d (Accessed zone bank call answer ∷ []) rest) (sym is) (refl, refl, refl, left);
-  makes = made;
-  chains = (w, related, refl);
-}
-
--- the control machine was asked, where the course is that of the call
-pub does_ask : {N W : Type 0} (accesses : W → ℕ → ℕ → BankCall → Access → W → Type 0) (asks : W → ControlCall → W → Type 0) (course rest : Course N)
-    (v w : W) (m n : Moment) (call : ControlCall) (next : Outcome → Course N) (answer : Outcome)
-    → course ≡ Asks call next → next answer ≡ rest → Makes m (Asked call answer ∷ []) n → asks v call w
-    → Does accesses asks course v m w n rest
-does_ask accesses asks course rest v w m n call next answer is left made related = record {
-  exchanges = Asked call answer ∷ [];
-  leads = subst (λ d. Leads d (Asked call answer ∷ []) rest) (sym is) (refl, left);
-  makes = made;
-  chains = (w, related, refl);
-}
 
 -- one thing behind another
 pub does_join : {N W : Type 0} (accesses : W → ℕ → ℕ → BankCall → Access → W → Type 0) (asks : W → ControlCall → W → Type 0) (first between last : Course N)

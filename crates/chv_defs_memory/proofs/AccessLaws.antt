@@ -44,7 +44,8 @@ sealed-by b c None block n r e = absurd (sealed-full (passes_limit b (places_of 
     sealed-full true e = cc
     sealed-full false e = cc
 
-sealed-at : (b : BankBook) (c : BankCall) (block n : ℕ) (r : BankReply) → is_frozen b.history ≡ false → Err (refusal.Sealed block n) ≡ refused_or (refusal_of b c) r → (n ≡ length b.history) × (first_sealed b.bank b.history c ≡ Some block)
+-- where it is refused because a block is sealed, the refusal tells the history's length and the lowest sealed block of the call
+pub sealed-at : (b : BankBook) (c : BankCall) (block n : ℕ) (r : BankReply) → is_frozen b.history ≡ false → Err (refusal.Sealed block n) ≡ refused_or (refusal_of b c) r → (n ≡ length b.history) × (first_sealed b.bank b.history c ≡ Some block)
 sealed-at b (call.Unpin number) block n r thawed e = absurd (let wrong : ⊥ = cc in wrong)
 sealed-at b c block n r thawed e =
     sealed-by b c (first_sealed b.bank b.history c) block n r

@@ -48,11 +48,6 @@ pub acting-lent : (shared : Bool) (lent : List ℕ) (caller : ℕ) → is_in cal
 acting-lent true lent caller acts = acts
 acting-lent false lent caller acts = cc
 
--- and so are those whose accesses a history goes on by
-pub acting-goes-on : (shared : Bool) (lent : List ℕ) (before after : List BankEntry) → GoesOn (acting shared lent) before after → GoesOn lent before after
-acting-goes-on true lent before after goes = goes
-acting-goes-on false lent before after goes = ([], refl, goes-on-none before after goes ∙ sym (append-nil before))
-
 -- ---- the owner's calls while no context acts
 
 -- the owner sees nothing new

@@ -1,3 +1,4 @@
 pub mod Accesses
 pub mod LentBanks
 pub mod Room
+pub mod Laws

@@ -149,11 +149,6 @@ slice_on accesses asks map script taken cpu next before between after was mid no
 
 -- ---- the context stays out
 
-pub stays_none : {W : Type 0} (number : W → ℕ) (lent : W → ℕ → Type 0) (books : W → List (List ℕ)) (caller : W → ℕ) (context : W → Option ℕ) (w : W)
-    → lent w (number w) → StaysOut number lent books caller context w w
-stays_none number lent books caller context w is =
-    record { still_lent = is; same_bank_caller = refl; same_books = refl; same_caller = refl; same_context = refl }
-
 pub stays_join : {W : Type 0} (number : W → ℕ) (lent : W → ℕ → Type 0) (books : W → List (List ℕ)) (caller : W → ℕ) (context : W → Option ℕ) (u v w : W)
     → StaysOut number lent books caller context u v → StaysOut number lent books caller context v w → StaysOut number lent books caller context u w
 stays_join number lent books caller context u v w h k = record {
