@@ -130,9 +130,11 @@ impl<V: Kept> Book<V> {
         pass.put(seat, entries);
     }
 
-    /// Ends a turn in which one entry of the caller was appended.
+    /// Ends the pass's turn, in which one entry of the caller was appended.
     pub fn finish(&self, pass: &mut Pass<V::Entry>, turn: Turn<V>)
         requires book { turn.book ≡ self.now }
+        // The pass is one that has a turn.
+        requires away { pass.old.free ≡ false }
         requires caller { turn.caller ≡ pass.old.caller }
         requires one { Appends V.Entry.made_by turn.caller turn.noted (V.history turn.value) }
         requires origin { turn.origin ≡ Some (V.origin turn.value) }
@@ -142,9 +144,11 @@ impl<V: Kept> Book<V> {
         self.end_turn(pass, turn);
     }
 
-    /// Ends a turn in which nothing was appended.
+    /// Ends the pass's turn, in which nothing was appended.
     pub fn leave(&self, pass: &mut Pass<V::Entry>, turn: Turn<V>)
         requires book { turn.book ≡ self.now }
+        // The pass is one that has a turn.
+        requires away { pass.old.free ≡ false }
         requires caller { turn.caller ≡ pass.old.caller }
         requires none { V.history turn.value ≡ turn.noted }
         requires origin { turn.origin ≡ Some (V.origin turn.value) }
