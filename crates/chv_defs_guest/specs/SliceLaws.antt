@@ -3,6 +3,7 @@
 use Rattle.std.specs.Prelude.{◌≡◌, ◌≤◌, ⊤, ℕ, Bool, true, false, List, [], ◌∷◌, ◌++◌, length, map, Option, None, Some, Ok, Err, IfSome}
 use Rattle.std.specs.List.{list_all}
 use Rattle.chv_defs_base.specs.declared.book.BookId.TheVariants as book
+use Rattle.chv_defs_api.specs.declared.context.ContextNote.TheVariants as context
 use Rattle.chv_defs_api.specs.declared.context.CpuNote.{CpuNote}
 use Rattle.chv_defs_api.specs.declared.context.SliceEnd.{SliceEnd}
 use Rattle.chv_defs_api.specs.declared.context.SliceEnd.TheVariants as end
@@ -15,8 +16,9 @@ use Rattle.chv_defs_memory.specs.Lending.{Access, GoesOnFor}
 use Rattle.chv_defs_scene.specs.declared.scene.Line.{Line}
 use Rattle.chv_addr.specs.AddressMap.{AddressMap}
 use Rattle.chv_defs_guest.specs.Course.{Course, Ends, Accesses, Asks, Exchange, Accessed, Asked, IsSlice, Outcome, answers_of, books_of, entries_in}
-use Rattle.chv_defs_guest.specs.Moments.{Turns}
-use Rattle.chv_defs_guest.specs.VcpuCourse.{vcpu_course}
+use Rattle.chv_defs_guest.specs.Moments.{Makes, Moment, Turns}
+use Rattle.chv_defs_guest.specs.Slices.{IsVcpuSlice}
+use Rattle.chv_defs_guest.specs.VcpuCourse.{most_instructions, vcpu_course}
 
 -- ---- what the answers tell
 
@@ -125,6 +127,14 @@ abbrev pub HandTells : Type 0
 HandTells =
     (addresses : AddressMap) (script : List Line) (n : ℕ) (taken : CpuNote) (exchanges : List Exchange) (note : CpuNote) (how : SliceEnd)
     → IsSlice (vcpu_course addresses script n taken) exchanges note how → EndSo how exchanges
+
+-- The law of what is handed back: where a vCPU's whole slice was made from one moment to another, a Hand with its note and its end, and
+-- with the books that were noted in between, hands back a slice.
+abbrev pub HandsASlice : Type 0
+HandsASlice =
+    (addresses : AddressMap) (script : List Line) (taken note : CpuNote) (exchanges : List Exchange) (how : SliceEnd) (before after : Moment)
+    → before.order ≡ [] → Makes before exchanges after → IsSlice (vcpu_course addresses script most_instructions taken) exchanges note how
+    → IsVcpuSlice addresses script taken exchanges (record { note = context.Cpu note; end = how; order = after.order })
 
 -- ---- what the order tells
 

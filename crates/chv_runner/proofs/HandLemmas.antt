@@ -1,5 +1,5 @@
 -- How the exchanges of a vCPU's slice end, and how many there are.
-use Rattle.std.proofs.Common.{◌≡◌, ◌≤◌, ℕ, zero, suc, Bool, true, false, List, [], ◌∷◌, length, refl, ap, sym, subst, ◌∙◌, arith}
+use Rattle.std.proofs.Common.{◌≡◌, ◌≤◌, ℕ, zero, suc, Bool, true, false, List, [], ◌∷◌, ◌++◌, length, refl, ap, sym, subst, ◌∙◌, arith}
 use Rattle.std.specs.Prelude.{◌&&◌, Ok, Err, if◌then◌else◌}
 use Rattle.std.specs.List.{list_all}
 use Rattle.chv_defs_base.specs.declared.book.BookId.TheVariants as book
@@ -13,11 +13,11 @@ use Rattle.chv_defs_scene.specs.declared.scene.Line.{Line}
 use Rattle.chv_addr.specs.AddressMap.{AddressMap}
 use Rattle.chv_defs_guest.specs.declared.want.Want.{Want}
 use Rattle.chv_defs_guest.specs.declared.want.Want.TheVariants as want
-use Rattle.chv_defs_guest.specs.Course.{Course, Ends, Accesses, Asks, Exchange, Accessed, Asked, IsSlice}
+use Rattle.chv_defs_guest.specs.Course.{Course, Ends, Accesses, Asks, Exchange, Accessed, Asked, IsSlice, books_of}
 use Rattle.chv_defs_guest.specs.Instruction.{step_of}
 use Rattle.chv_defs_guest.specs.Routing.{Piece, piece_of, route_of}
 use Rattle.chv_defs_guest.specs.Routing.Piece.{InBank, InControl, Known}
-use Rattle.chv_defs_guest.specs.SliceLaws.{AreReplied, EndSo, FewCalls, HandTells, is_replied, is_stopping}
+use Rattle.chv_defs_guest.specs.SliceLaws.{AreReplied, EndSo, FewCalls, HandTells, HandsASlice, is_replied, is_stopping}
 use Rattle.chv_defs_guest.specs.VcpuCourse.{behind_access, behind_ask, gets, instruction_course, is_over, piece_course, vcpu_course}
 
 -- ---- one more exchange that was replied to
@@ -119,3 +119,9 @@ few_calls addresses script n taken exchanges note how h = (told addresses script
 
 pub hand_tells : HandTells
 hand_tells addresses script n taken exchanges note how h = (told addresses script n taken exchanges note how h).1
+
+-- ---- what is handed back
+
+pub hands_a_slice : HandsASlice
+hands_a_slice addresses script taken note exchanges how before after empty makes slice =
+    record { note = note; handed = refl; slice = slice; order = makes.order ∙ ap (λ books. books ++ books_of exchanges) empty }

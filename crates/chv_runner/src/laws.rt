@@ -1,5 +1,5 @@
 // The laws above slices, as contracts of functions that do nothing.
-ghost use Rattle.chv_defs_guest.specs.SliceLaws.{AnswersTell, FewCalls, HandTells, OrderTells, SealedTells, WorldGivesOne};
+ghost use Rattle.chv_defs_guest.specs.SliceLaws.{AnswersTell, FewCalls, HandTells, HandsASlice, OrderTells, SealedTells, WorldGivesOne};
 
 /// The answers of a vCPU's slice give its calls, its note and its end.
 pub fn answers_tell()
@@ -19,6 +19,11 @@ pub fn few_calls()
 /// The end that a Hand names tells which calls of the slice made an entry, and what the last one came to where it made none.
 pub fn hand_tells()
     ensures { HandTells }
+{}
+
+/// What a runner hands back that made a whole slice is a slice.
+pub fn hands_a_slice()
+    ensures { HandsASlice }
 {}
 
 /// What a caller entered in each book, and the books in order, tell its exchanges.

@@ -9,6 +9,8 @@ mod laws;
 mod pair;
 mod slice;
 
-pub use laws::{answers_tell, few_calls, hand_tells, order_tells, sealed_tells, world_gives_one};
+pub use laws::{
+    answers_tell, few_calls, hand_tells, hands_a_slice, order_tells, sealed_tells, world_gives_one,
+};
 pub use pair::vcpu_slice;
 pub use slice::{SliceDone, vcpu_slice_on};

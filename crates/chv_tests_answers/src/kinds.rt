@@ -3,7 +3,9 @@ use crate::answers::{allocated, answer};
 use crate::escapes::bytes_of;
 use crate::numbers::number_or_none;
 use crate::words::found;
-use crate::{calls, configs, json, numbers, replies, routes, scenes, scripts, steps, streams};
+use crate::{
+    calls, configs, json, numbers, replies, routes, scenes, scripts, slices, steps, streams,
+};
 use chv_json::{config_of, disk_of, resize_of, zone_of};
 use chv_num::{hex_of, read_dec, read_hex};
 use std::alloc::{AllocError, Global};
@@ -28,6 +30,7 @@ pub fn answer_to(alloc: Global, kind: &str, words: &str) -> io::Result<String> {
         "pieces" => streams::pieces(alloc, words),
         "step" => steps::instruction(alloc, words),
         "route" => routes::access(alloc, words),
+        "slice" => slices::slice(alloc, words),
         _ => answer_to_bytes(alloc, kind, words),
     }
 }

@@ -2,6 +2,7 @@
 ghost use Rattle.std.specs.Prelude.{◌≡◌, true, IfOk};
 ghost use Rattle.chv_addr.specs.AddressMap.{is_within_limits};
 ghost use Rattle.chv_defs_guest.specs.Instruction.{CanBeRun, is_asking};
+ghost use Rattle.chv_defs_guest.specs.Slices.{IsMapOfZones};
 
 use crate::answers::allocated;
 use crate::json::read_config;
@@ -65,8 +66,10 @@ fn asks(want: &Want) -> bool
     }
 }
 
-// The address map of the configuration in a body, without disks that stand by.
-fn map_of(alloc: Global, body: &str) -> io::Result<AddrMap> {
+/// The address map of the configuration in a body, without disks that stand by.
+pub fn map_of(alloc: Global, body: &str) -> io::Result<AddrMap>
+    ensures { IfOk result IsMapOfZones }
+{
     let config = read_config(alloc, body)?;
     let checked = checked_of(alloc, &config);
     drop(config);

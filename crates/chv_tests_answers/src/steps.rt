@@ -173,7 +173,7 @@ fn store_text(alloc: Global, addr: u64, bytes: &Bytes, put: bool) -> Result<Stri
 }
 
 // A text, and the state of a vCPU behind it.
-fn with_state(mut text: String, cpu: &CpuNote) -> Result<String, AllocError> {
+pub fn with_state(mut text: String, cpu: &CpuNote) -> Result<String, AllocError> {
     let position = cpu.pos;
     let fuel = cpu.fuel;
     let halted = if cpu.halted { " halted" } else { "" };
