@@ -69,8 +69,3 @@ left_faultless {E} (Ok stands) result stood refused counts faultless is =
     subst (λ (r : Result Next E). IfOk r (λ what. IsFaultless what refused counts)) (sym is.1) faultless
 left_faultless {E} (Err error) result stood refused counts faultless is =
     subst (λ (r : Result Next E). IfOk r (λ what. IsFaultless what refused counts)) (sym is.1) tt
-
-pub left_lost_so : {E : Type 0} (P : Type 0) (left : Result State E) (result : Result Next E) (stood : State) → OnErr left P
-    → Stands left stood result → OnErr result P
-left_lost_so {E} P (Ok stands) result stood lost is = subst (λ (r : Result Next E). OnErr r P) (sym is.1) tt
-left_lost_so {E} P (Err error) result stood lost is = subst (λ (r : Result Next E). OnErr r P) (sym is.1) lost
