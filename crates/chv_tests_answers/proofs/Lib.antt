@@ -1,1 +1,2 @@
+pub mod OpenBanks
 pub mod ReadLemmas

@@ -74,9 +74,19 @@ pub fn map_of(alloc: Global, body: &str) -> io::Result<AddrMap>
     let checked = checked_of(alloc, &config);
     drop(config);
     let checked = checked?;
-    let map = AddrMap::build(alloc, &checked);
+    let map = built(alloc, &checked);
     drop(checked);
-    allocated(map)
+    Ok(map?)
+}
+
+fn built(alloc: Global, checked: &Checked) -> Result<AddrMap, AllocError>
+    requires { is_within_limits checked.now.zones ≡ true }
+    ensures { IfOk result IsMapOfZones }
+{
+    match AddrMap::build(alloc, checked) {
+        Ok(map) => Ok(map),
+        Err(error) => Err(error),
+    }
 }
 
 fn checked_of(alloc: Global, config: &VmConfig) -> io::Result<Checked>

@@ -1,11 +1,13 @@
 // Slices of a vCPU (`chv_runner`).
-ghost use Rattle.std.specs.Prelude.{◌≡◌, ℕ, [], false, true, IfOk};
+ghost use Rattle.std.specs.Prelude.{◌≡◌, ℕ, [], ◌∷◌, false, true, IfOk};
 ghost use Rattle.chv_defs_guest.specs.Instruction.{CanBeRun};
 ghost use Rattle.chv_defs_guest.specs.Slices.{IsMapOfZones};
 ghost use Rattle.chv_defs_memory.specs.BankState.{is_frozen};
 ghost use Rattle.chv_defs_memory.specs.Lending.{is_in};
-ghost use Rattle.chv_defs_memory.specs.Zones.{IsBank};
-ghost use Rattle.chv_guest.specs.LentBanks.{fresh_zones, known_at};
+ghost use Rattle.chv_defs_memory.specs.Zones.{IsBank, OtherBanksStay, OtherZonesStay};
+ghost use Rattle.chv_defs_memory.specs.declared.bank.BankCall.TheVariants as call;
+ghost use Rattle.chv_defs_memory.specs.declared.bank.BankReply.TheVariants as reply;
+ghost use Rattle.chv_guest.specs.LentBanks.{fresh_banks, fresh_zones, known_at};
 
 use crate::answers::allocated;
 use crate::routes::map_of;
@@ -28,6 +30,7 @@ const OPEN_BLOCKS: u32 = 256;
 const CONTEXT: u32 = 1;
 
 // A desk of vCPU 0's runner at which memory is wanting for each call.
+#[derive(Drop)]
 struct WantingDesk;
 
 impl Desk<()> for WantingDesk {
@@ -117,16 +120,35 @@ fn lent_banks(alloc: Global) -> Result<LentBanks, AllocError>
 // Opens blocks in banks to which nothing happened yet.
 fn open_blocks(zones: &mut LentBanks) -> Result<(), AllocError>
     requires { zones.old ≡ fresh_zones }
-    ensures home { IfOk result (λ _. zones.new.lent ≡ []) }
+    ensures home { zones.new.lent ≡ [] }
     ensures thawed { IfOk result (λ _. (zone bank : ℕ) → IsBank zone bank → is_frozen (known_at zones.new.books zone bank).history ≡ false) }
 {
-    match zones.room((), 0, 1, 0)? {
-        Ok(()) => {
-            zones.owner((), 0, 0, &BankCall::Shape(OPEN_BLOCKS));
-            Ok(())
-        }
-        Err(_) => Err(AllocError),
+    if has_room(zones)? {
+        shape(zones);
+        return Ok(());
     }
+    Err(AllocError)
+}
+
+// Makes room for an entry in zone 0.
+fn has_room(zones: &mut LentBanks) -> Result<bool, AllocError>
+    requires { zones.old ≡ fresh_zones }
+    ensures made { IfOk result (λ made. made ≡ true → known_at zones.new.books 0 0 ≡ record { history = []; entries = 1; pages = 0 }) }
+    ensures home { zones.new.lent ≡ [] }
+    ensures others { OtherZonesStay (known_at fresh_banks) (known_at zones.new.books) 0 }
+{
+    Ok(zones.room((), 0, 1, 0)?.is_ok())
+}
+
+// Opens the blocks, for which there is room.
+fn shape(zones: &mut LentBanks)
+    requires home { zones.old.lent ≡ [] }
+    requires room { known_at zones.old.books 0 0 ≡ record { history = []; entries = 1; pages = 0 } }
+    ensures home { zones.new.lent ≡ [] }
+    ensures shaped { (known_at zones.new.books 0 0).history ≡ record { caller = 0; call = call.Shape OPEN_BLOCKS; reply = reply.Done } ∷ [] }
+    ensures others { OtherBanksStay (known_at zones.old.books) (known_at zones.new.books) 0 0 }
+{
+    zones.owner((), 0, 0, &BankCall::Shape(OPEN_BLOCKS));
 }
 
 // How a slice ended, and the books of its entries.

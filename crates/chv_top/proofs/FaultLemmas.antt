@@ -41,21 +41,21 @@ read_well {reads} {reads_after} {writes} {writes_after} s same wrote =
     wrote
 
 -- a run that met why there is no scenario
-pub stopped_so : {reads reads_after writes writes_after : ℕ} (put put_after : Option (List ℕ)) (why : Stop) (s : Status)
+pub stopped_so : (reads reads_after writes writes_after : ℕ) (put put_after : Option (List ℕ)) (why : Stop) (s : Status)
     → StopsFaultless why reads reads_after → Tells put put_after writes writes_after why s → WritesFaultless s writes writes_after
     → TellsFaults s reads reads_after writes writes_after
-stopped_so put put_after stop.Memory s by tells wrote = read_well s by wrote
-stopped_so {reads} {reads_after} {writes} {writes_after} put put_after stop.ReadFault s by tells wrote =
+stopped_so reads reads_after writes writes_after put put_after stop.Memory s by tells wrote = read_well s by wrote
+stopped_so reads reads_after writes writes_after put put_after stop.ReadFault s by tells wrote =
     let P : Status → Type 0 = λ t. TellsFaults t reads reads_after writes writes_after in
     ⊎_elim
     (λ done. ⊎_elim (λ is. absurd (cc (sym done.0 ∙ is))) (λ stays. subst P (sym done.0) stays) wrote)
     (λ failed. subst P (sym failed.0) tt)
     tells
-stopped_so put put_after stop.TooLong s by tells wrote = read_well s by wrote
-stopped_so put put_after (stop.Scene fault) s by tells wrote = read_well s by wrote
+stopped_so reads reads_after writes writes_after put put_after stop.TooLong s by tells wrote = read_well s by wrote
+stopped_so reads reads_after writes writes_after put put_after (stop.Scene fault) s by tells wrote = read_well s by wrote
 
 -- what is told at a status that is known
-pub told_at : {reads reads_after writes writes_after : ℕ} (s t : Status) → TellsFaults s reads reads_after writes writes_after → s ≡ t
+pub told_at : (reads reads_after writes writes_after : ℕ) (s t : Status) → TellsFaults s reads reads_after writes writes_after → s ≡ t
     → TellsFaults t reads reads_after writes writes_after
-told_at {reads} {reads_after} {writes} {writes_after} s t told is =
+told_at reads reads_after writes writes_after s t told is =
     subst (λ (u : Status). TellsFaults u reads reads_after writes writes_after) is told

@@ -12,4 +12,4 @@ pub returns-in-Ok-clause-faults : goal.returns-in-Ok-clause-faults
 returns-in-Ok-clause-faults g c = read_well _ c.in-Ok.ensures.kept c.play_scene.ensures.kept
 
 pub returns-in-Err-clause-faults : goal.returns-in-Err-clause-faults
-returns-in-Err-clause-faults g c = stopped_so _ _ c.in-Err.stop _ c.in-Err.ensures.counts c.say.ensures.said c.say.ensures.kept
+returns-in-Err-clause-faults g c = stopped_so _ _ _ _ _ _ c.in-Err.stop _ c.in-Err.ensures.counts c.say.ensures.said c.say.ensures.kept
