@@ -1,4 +1,4 @@
-use Rattle.std.proofs.Common.{ap, ◌∙◌}
+use Rattle.std.proofs.Common.{ap, ◌∙◌, [], refl}
 use Rattle.chv_defs_memory.specs.declared.bank.BankCall.TheVariants as call
 use Rattle.chv_defs_memory.specs.Zones.{Known}
 use Rattle.chv_defs_memory.proofs.ZoneLaws.{entered_by}
@@ -8,5 +8,5 @@ use Rattle.chv_tests_control.proofs.ctl_mem.freeze.Goals as goal
 
 pub returns-clause-frozen : goal.returns-clause-frozen
 returns-clause-frozen c =
-    call_made c.args.zones.now.lent 0 (known_at c.args.zones.now.books c.args.zone 0) (known_at c.owner.new.self.books c.args.zone 0) call.Freeze c.owner.result c.requires.home c.owner.ensures.entered
+    call_made [] 0 (known_at c.args.zones.now.books c.args.zone 0) (known_at c.owner.new.self.books c.args.zone 0) call.Freeze c.owner.result refl c.owner.ensures.entered
     ∙ ap (λ (k : Known). entered_by 0 call.Freeze k) c.requires.room

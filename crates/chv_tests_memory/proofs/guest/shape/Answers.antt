@@ -1,4 +1,4 @@
-use Rattle.std.proofs.Common.{◌≡◌, ℕ, ◌-◌, List, [], ◌∷◌, ap, arith, ◌∙◌}
+use Rattle.std.proofs.Common.{◌≡◌, ℕ, ◌-◌, List, [], ◌∷◌, ap, arith, ◌∙◌, refl}
 use Rattle.chv_defs_memory.specs.declared.bank.BankCall.TheVariants as call
 use Rattle.chv_defs_memory.specs.declared.bank.BankEntry.{BankEntry}
 use Rattle.chv_defs_memory.specs.declared.bank.BankReply.TheVariants as reply
@@ -18,7 +18,7 @@ returns-clause-shaped c =
       pages = pages;
     } in
     let none_used : before.pages - 0 ≡ before.pages = omega arith in
-    call_made c.args.zones.now.lent 0 before (known_at c.owner.new.self.books c.args.zone 0) (call.Shape 256) c.owner.result c.requires.home c.owner.ensures.entered
+    call_made [] 0 before (known_at c.owner.new.self.books c.args.zone 0) (call.Shape 256) c.owner.result refl c.owner.ensures.entered
     ∙ ap (λ (history : List BankEntry). made history before.entries) c.requires.history
     ∙ ap (λ (entries : ℕ). made [] entries) c.requires.entries
     ∙ ap left none_used
