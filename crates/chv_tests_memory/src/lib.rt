@@ -3,7 +3,7 @@
 //!
 //! `set`: small sets of blocks. `pages`: reads and writes across the edges of pages, and which pages are listed. `bank`: an
 //! unplug from its pin to the next plug, and the refusals in their order; its calls are in `bank_calls`. `guest`: the banks
-//! of all zones, as their owner reaches them.
+//! of all zones, as their owner reaches them. `lending`: two contexts to which they are lent.
 #![tactic(auto)]
 
 #[cfg(test)]
@@ -12,6 +12,8 @@ mod bank;
 mod bank_calls;
 #[cfg(test)]
 mod guest;
+#[cfg(test)]
+mod lending;
 #[cfg(test)]
 mod pages;
 #[cfg(test)]
